@@ -1,0 +1,5 @@
+pub mod Marks
+pub mod Minutes
+pub mod Stints
+pub mod Histories
+pub mod DateText
