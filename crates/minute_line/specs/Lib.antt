@@ -3,3 +3,4 @@ pub mod Minutes
 pub mod Stints
 pub mod Histories
 pub mod DateText
+pub mod Answers

@@ -34,5 +34,6 @@ pub struct History {
     pub ghost total: { total_of stints.stints ≤ 20160 },
     pub ghost run: { open_off ≤ 20160 },
     pub ghost drive: { prev_drive ≤ 10080 },
+    pub ghost sixteen: { length work16 ≡ 16 },
     pub ghost weeks: { all_up_to 10080 work16 ≡ true },
 }

@@ -1,0 +1,24 @@
+-- A history keeps its bounds.
+use Rattle.std.proofs.Common.{ℕ, suc, ◌≡◌, ◌≤◌, ◌+◌, ◌*◌, ◌&&◌, true, nat_le, sum, List, [], ◌∷◌, length, arith}
+use Rattle.std.proofs.Math.Nat.{mul-suc}
+use Rattle.std.proofs.lemmas.List.Sums.{sum_by-cons}
+use Rattle.minute_line.specs.declared.lines.History.{History}
+use Rattle.minute_line.specs.Stints.{all_up_to}
+use Rattle.hours_rules.specs.Verdicts.{IsHistory}
+
+pub sum-all_up_to : (most : ℕ) (ns : List ℕ) → all_up_to most ns ≡ true → sum ns ≤ most * length ns
+sum-all_up_to most [] h = omega arith
+sum-all_up_to most (n ∷ ns) h =
+    let more : sum ns ≤ most * length ns = grind (arith, sum-all_up_to most ns) in
+    let first : n ≤ most = grind arith in
+    let all : sum (n ∷ ns) ≡ n + sum ns = sum_by-cons (λ m. m) n ns in
+    let long : most * length (n ∷ ns) ≡ most * length ns + most = mul-suc most (length ns) in
+    omega (arith, more, first, all, long)
+
+pub is_history : (h : History) → IsHistory h
+is_history h = record {
+  stints = h.total;
+  open_off = h.run;
+  prev_drive = h.drive;
+  work16 = omega (arith, sum-all_up_to 10080 h.work16 h.weeks, h.sixteen);
+}

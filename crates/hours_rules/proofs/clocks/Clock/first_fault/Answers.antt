@@ -1,0 +1,33 @@
+use Rattle.std.proofs.Common.{◌∙◌, arith, sym, refl, ◌<◌, leb, le-leb}
+use Rattle.std.proofs.lemmas.Bool.{lt-leb}
+use Rattle.hours_rules.specs.Machine.{room}
+use Rattle.hours_rules.specs.Rules.{all_rules}
+use Rattle.hours_rules.proofs.Least.{find_skip, find_hit, find_end, within_found, within_none}
+use Rattle.hours_rules.proofs.clocks.Clock.first_fault.Goals as goal
+
+pub loop-rule-init : goal.loop-rule-init
+loop-rule-init c = refl
+
+pub returns-then-room-least : goal.returns-then-room-least
+returns-then-room-least c =
+    let h : c.loop-rule.rule-index < 11 = omega arith in
+    let f = room c.args.self.now c.args.ended.now c.args.mark c.args.kind in
+    let l = c.if-room-least.true in
+    sym (within_found f c.args.self.now.at c.args.minutes c.least_room-least.result _ c.least_room-least.ensures c.if-minutes-least.false
+    (sym c.loop-rule.invariant ∙ find_hit (λ rule. leb (f rule) c.least_room-least.result) all_rules c.loop-rule.rule-index _ h
+    (le-leb _ _ (rw c.room.ensures at l))))
+
+pub loop-rule-preserved : goal.loop-rule-preserved
+loop-rule-preserved c =
+    let h : c.loop-rule.rule-index < 11 = omega arith in
+    let f = room c.args.self.now c.args.ended.now c.args.mark c.args.kind in
+    let l = c.if-room-least.false in
+    find_skip (λ rule. leb (f rule) c.least_room-least.result) all_rules c.loop-rule.rule-index _ h
+    (lt-leb _ _ (rw c.room.ensures at l))
+    ∙ c.loop-rule.invariant
+
+pub returns : goal.returns
+returns c =
+    let f = room c.args.self.now c.args.ended.now c.args.mark c.args.kind in
+    sym (within_none f c.args.self.now.at c.args.minutes c.least_room-least.result c.least_room-least.ensures c.if-minutes-least.false
+    (sym c.loop-rule.invariant ∙ find_end (λ rule. leb (f rule) c.least_room-least.result) all_rules c.loop-rule.rule-index (omega arith)))

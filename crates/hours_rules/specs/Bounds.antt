@@ -1,0 +1,23 @@
+-- How large the numbers of a clock may be. The contracts of the private functions cite this.
+use Rattle.std.specs.Prelude.{ℕ, ◌≤◌, pos, ◌+ℤ◌, ◌≤ℤ◌}
+use Rattle.hours_rules.specs.declared.clocks.Clock.{Clock}
+
+-- Each number is one that a line of at most n minutes can have.
+pub record IsWithin (n : ℕ) (c : Clock) : Type 0 where
+  pub at : c.at ≤ n
+  pub off : c.off ≤ n
+  pub day_from : c.day_from ≤ℤ pos c.at
+  pub day_long : pos c.at ≤ℤ (c.day_from +ℤ pos n)
+  pub rest_from : c.rest_from ≤ℤ pos c.at
+  pub rest_long : pos c.at ≤ℤ (c.rest_from +ℤ pos n)
+  pub period : c.period ≤ n
+  pub drive_day : c.drive_day ≤ n
+  pub long_days : c.long_days ≤ n
+  pub reduced : c.reduced ≤ n
+  pub work_run : c.work_run ≤ n
+  pub work_day : c.work_day ≤ n
+  pub pause_day : c.pause_day ≤ 45
+  pub drive_week : c.drive_week ≤ n
+  pub work_week : c.work_week ≤ n
+  pub prev_drive : c.prev_drive ≤ 200000
+  pub work_before : c.work_before ≤ 200000

@@ -1,0 +1,120 @@
+-- How a clock moves on. The contracts of the private functions cite this; no public clause does.
+use Rattle.std.specs.Prelude.{ℕ, ◌+◌, ◌-◌, Bool, false, not, ◌&&◌, ◌||◌, nat_lt, nat_le, if◌then◌else◌, pos, ◌-ℤ◌, min, int_lt, nat_abs, ℤ, int_le, List, [], ◌∷◌, Option, None, find, option_map}
+use Rattle.minute_line.specs.declared.marks.Mark.{Mark}
+use Rattle.minute_line.specs.declared.marks.Kind.{Kind}
+use Rattle.hours_rules.specs.declared.clocks.Clock.{Clock}
+use Rattle.hours_rules.specs.declared.rules.Rule.{Rule}
+use Rattle.hours_rules.specs.declared.rules.Rule.TheVariants.{H1, H2, H3, H4, H5, H6, H7, H8, H9, H10, H11}
+use Rattle.hours_rules.specs.declared.rules.Broken.{Broken}
+use Rattle.hours_rules.specs.Rules.{least_rest, all_rules}
+use Rattle.minute_line.specs.Marks.{is_drive, is_working, is_daily, is_weekly, is_rest}
+
+-- The open run, declared to be of this kind, ends here: it is a run, a rest, a Weekly one, a full break.
+abbrev pub rest_here : Clock → Kind → Bool
+rest_here c kind = nat_le 1 c.off && is_rest kind
+
+abbrev pub weekly_here : Clock → Kind → Bool
+weekly_here c kind = nat_le 1 c.off && is_weekly kind
+
+abbrev pub daily_here : Clock → Kind → Bool
+daily_here c kind = nat_le 1 c.off && is_daily kind
+
+abbrev pub break_here : Clock → Bool
+break_here c = nat_le 45 c.off || (nat_le 30 c.off && c.half)
+
+abbrev pub long_here : Clock → Kind → Bool
+long_here c kind = rest_here c kind && (nat_lt 540 c.drive_day && nat_lt c.off c.at)
+
+abbrev pub reduced_here : Clock → Kind → Bool
+reduced_here c kind =
+    daily_here c kind && (not c.split
+    && (nat_lt c.off 660 || int_lt (pos 780) ((pos c.at -ℤ c.day_from) -ℤ pos c.off)))
+
+-- The clock once its open run, declared to be of this kind, has ended.
+abbrev pub run_ended : Clock → Kind → Clock
+run_ended c kind = record c {
+  off = 0;
+  day_from = if rest_here c kind then pos c.at else c.day_from;
+  rest_from = if weekly_here c kind then pos c.at else c.rest_from;
+  period = if break_here c then 0 else c.period;
+  half = if break_here c then false else (nat_le 15 c.off || c.half);
+  drive_day = if rest_here c kind then 0 else c.drive_day;
+  long_days = (if long_here c kind then 1 else 0) + c.long_days;
+  split = if rest_here c kind then false else (nat_le 180 c.off || c.split);
+  reduced = if weekly_here c kind then 0 else ((if reduced_here c kind then 1 else 0) + c.reduced);
+  prev_weekly = if weekly_here c kind then c.off else c.prev_weekly;
+  work_run = if nat_le 15 c.off then 0 else c.work_run;
+  work_day = if rest_here c kind then 0 else c.work_day;
+  pause_day = if rest_here c kind then 0 else min 45 ((if nat_le 15 c.off then c.off else 0) + c.pause_day);
+}
+
+-- n minutes if the test holds.
+abbrev pub if_so : Bool → ℕ → ℕ
+if_so test n = if test then n else 0
+
+-- The clock after n more on-duty minutes of one mark, where no run is open.
+abbrev pub ticked : Clock → Mark → ℕ → Clock
+ticked c mark n = record c {
+  at = c.at + n;
+  period = if_so (is_drive mark) n + c.period;
+  drive_day = if_so (is_drive mark) n + c.drive_day;
+  drive_week = if_so (is_drive mark) n + c.drive_week;
+  work_run = if_so (is_working mark) n + c.work_run;
+  work_day = if_so (is_working mark) n + c.work_day;
+  work_week = if_so (is_working mark) n + c.work_week;
+}
+
+-- The clock after n more Off minutes.
+abbrev pub rested : Clock → ℕ → Clock
+rested c n = record c { at = c.at + n; off = c.off + n }
+
+-- More minutes than a line has.
+abbrev pub unlimited : ℕ
+unlimited = 20000
+
+-- A limit that stands only where the test holds.
+abbrev pub limit_if : Bool → ℕ → ℕ
+limit_if test limit = if test then limit else unlimited
+
+-- How many Ready minutes are left until so many minutes from where a span began.
+abbrev pub left_until : ℕ → ℤ → ℕ → ℕ
+left_until limit from at = if int_le ((pos at -ℤ from)) (pos limit) then nat_abs (pos limit -ℤ (pos at -ℤ from)) else 0
+
+-- How many minutes of one on-duty mark may follow by a rule, where `c` is the clock before them and `e` the clock once
+-- its open run has ended.
+abbrev pub room : Clock → Clock → Mark → Kind → Rule → ℕ
+room c e mark kind H1 = limit_if (is_drive mark) (270 - e.period)
+room c e mark kind H2 = limit_if (is_drive mark) ((if nat_lt e.long_days 2 then 600 else 540) - e.drive_day)
+room c e mark kind H3 = left_until 900 e.day_from e.at
+room c e mark kind H4 = if nat_le e.reduced 3 then unlimited else 0
+room c e mark kind H5 = if nat_le 1 c.off && nat_lt c.off (least_rest kind c.prev_weekly) then 0 else unlimited
+room c e mark kind H6 = left_until 8640 e.rest_from e.at
+room c e mark kind H7 = limit_if (is_drive mark) (3360 - e.drive_week)
+room c e mark kind H8 = limit_if (is_drive mark) (5400 - (e.drive_week + e.prev_drive))
+room c e mark kind H9 = limit_if (is_working mark) (min (3600 - e.work_week) (48960 - (e.work_week + e.work_before)))
+room c e mark kind H10 = limit_if (is_working mark) (360 - e.work_run)
+room c e mark kind H11 =
+    limit_if (is_working mark && nat_lt e.pause_day 45) ((if nat_lt e.pause_day 30 then 360 else 540) - e.work_day)
+
+-- The least room by some rules, and at most n.
+abbrev pub least_room : (Rule → ℕ) → ℕ → List Rule → ℕ
+least_room f n [] = n
+least_room f n (r ∷ rs) = min (f r) (least_room f n rs)
+
+-- The first fault in n minutes, where each rule has so much room.
+abbrev pub fault_within : (Rule → ℕ) → ℕ → ℕ → Option Broken
+fault_within f at n =
+    if nat_le n (least_room f n all_rules) then None
+    else option_map (λ rule. record { rule = rule; minute = at + least_room f n all_rules })
+    (find (λ rule. nat_le (f rule) (least_room f n all_rules)) all_rules)
+
+-- The clock of a line that was counted from its own start, once it stands before Monday.
+abbrev pub at_monday : Clock → Clock
+at_monday c = record c {
+  at = 0;
+  day_from = c.day_from -ℤ pos c.at;
+  rest_from = c.rest_from -ℤ pos c.at;
+  long_days = 0;
+  drive_week = 0;
+  work_week = 0;
+}

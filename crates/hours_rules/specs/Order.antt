@@ -1,0 +1,53 @@
+-- When one clock is at least as good as another.
+use Rattle.std.specs.Prelude.{◌≡◌, ◌≤◌, true, ◌≤ℤ◌, length, ◌++◌, None, pos, ◌-ℤ◌}
+use Rattle.minute_line.specs.Minutes.{Minutes}
+use Rattle.hours_rules.specs.declared.clocks.Clock.{Clock}
+use Rattle.hours_rules.specs.Rules.{Past, fault_from}
+use Rattle.hours_rules.specs.Standing.{Stands}
+
+-- Every field of `a` is at least as good as that of `b`, at the same minute, with the same open run.
+pub record IsAsGood (a b : Clock) : Type 0 where
+  pub at : a.at ≡ b.at
+  pub off : a.off ≡ b.off
+  pub day_from : b.day_from ≤ℤ a.day_from
+  pub rest_from : b.rest_from ≤ℤ a.rest_from
+  pub period : a.period ≤ b.period
+  pub half : a.half ≡ b.half
+  pub drive_day : a.drive_day ≤ b.drive_day
+  pub long_days : a.long_days ≤ b.long_days
+  pub split : b.split ≡ true → a.split ≡ true
+  pub reduced : a.reduced ≤ b.reduced
+  pub prev_weekly : 2700 ≤ b.prev_weekly → 2700 ≤ a.prev_weekly
+  pub work_run : a.work_run ≤ b.work_run
+  pub work_day : a.work_day ≤ b.work_day
+  pub pause_day : b.pause_day ≤ a.pause_day
+  pub drive_week : a.drive_week ≤ b.drive_week
+  pub work_week : a.work_week ≤ b.work_week
+  pub prev_drive : a.prev_drive ≡ b.prev_drive
+  pub work_before : a.work_before ≡ b.work_before
+
+-- Two lines, with clocks that stand for them, the first as good as the second.
+pub record Together (pa pb : Past) (wa wb : Minutes) : Type 0 where
+  pub first : Clock
+  pub second : Clock
+  pub as_good : IsAsGood first second
+  pub first_stands : Stands first pa wa
+  pub second_stands : Stands second pb wb
+
+-- Minutes that break no rule after the second line break none after the first, and the order lasts.
+abbrev pub OrderLasts : Type 0
+OrderLasts = (pa pb : Past) (wa wb more : Minutes) → Together pa pb wa wb →
+    fault_from (length wb) pb (more ++ wb) ≡ None →
+    Together pa pb (more ++ wa) (more ++ wb) × (fault_from (length wa) pa (more ++ wa) ≡ None)
+
+-- The first clock is as good as the second at an earlier or equal minute, and no run is open.
+pub record IsEarlier (a b : Clock) : Type 0 where
+  pub at : a.at ≤ b.at
+  pub off : (a.off ≡ 0) × (b.off ≡ 0)
+  pub as_good : IsAsGood (record a { at = b.at }) b
+
+-- The clock keeps the limits that are judged at any on-duty minute.
+pub record IsRested (c : Clock) : Type 0 where
+  pub day : (pos c.at -ℤ c.day_from) ≤ℤ pos 900
+  pub week : (pos c.at -ℤ c.rest_from) ≤ℤ pos 8640
+  pub reduced : c.reduced ≤ 3

@@ -1,0 +1,96 @@
+-- The rules, at a minute of the week, and a line's first fault.
+use Rattle.std.specs.Prelude.{ℕ, ◌+◌, Bool, not, ◌&&◌, ◌||◌, nat_lt, nat_le, if◌then◌else◌, List, [], ◌∷◌, ◌++◌, length, Option, Some, None, find, option_map}
+use Rattle.minute_line.specs.declared.marks.Kind.{Kind}
+use Rattle.minute_line.specs.declared.marks.Kind.TheVariants.{Plain, Daily, Weekly}
+use Rattle.minute_line.specs.Minutes.{Minute, Minutes}
+use Rattle.hours_rules.specs.declared.rules.Rule.{Rule}
+use Rattle.hours_rules.specs.declared.rules.Rule.TheVariants.{H1, H2, H3, H4, H5, H6, H7, H8, H9, H10, H11}
+use Rattle.hours_rules.specs.declared.rules.Broken.{Broken}
+use Rattle.minute_line.specs.Marks.{is_duty, is_drive, is_working}
+use Rattle.hours_rules.specs.Counts.{count, open_run, ends_run, work_day_of, since_weekly, since_pause, period_of, ends_reduced, ends_long, times, off_in_runs, last_weekly}
+
+-- What stands before Monday.
+pub record Past : Type 0 where
+  pub minutes : Minutes
+  pub prev_weekly : ℕ
+  pub prev_drive : ℕ
+  pub work_before : ℕ
+
+-- The minutes of the week's line so far, with all that stands before them.
+abbrev pub whole : Past → Minutes → Minutes
+whole past week = week ++ past.minutes
+
+-- How many long days that count have ended.
+abbrev pub long_days_of : Minutes → Minutes → ℕ
+long_days_of past [] = 0
+long_days_of past (m ∷ week) = (if ends_long past m week then 1 else 0) + long_days_of past week
+
+-- How long the off run must have been that is declared so, after a Weekly run of `weekly` minutes.
+abbrev pub least_rest : Kind → ℕ → ℕ
+least_rest Plain weekly = 0
+least_rest Daily weekly = 540
+least_rest Weekly weekly = if nat_lt weekly 2700 then 2700 else 1440
+
+-- The rule holds at the minute m, which follows `week`.
+abbrev pub holds : Past → Minute → Minutes → Rule → Bool
+holds past m week H1 =
+    not (is_drive m.mark) || nat_le (count is_drive (period_of (whole past (m ∷ week)))) 270
+holds past m week H2 =
+    not (is_drive m.mark) || nat_le (count is_drive (work_day_of (whole past (m ∷ week))))
+    (if nat_lt (long_days_of past.minutes (m ∷ week)) 2 then 600 else 540)
+holds past m week H3 = not (is_duty m.mark) || nat_le (length (work_day_of (whole past (m ∷ week)))) 900
+holds past m week H4 =
+    not (is_duty m.mark) || nat_le (times ends_reduced (since_weekly (whole past (m ∷ week)))) 3
+holds past m week H5 =
+    not (ends_run 1 m (whole past week))
+    || nat_le (least_rest m.kind (last_weekly past.prev_weekly (whole past week))) (open_run (whole past week))
+holds past m week H6 = not (is_duty m.mark) || nat_le (length (since_weekly (whole past (m ∷ week)))) 8640
+holds past m week H7 = not (is_drive m.mark) || nat_le (count is_drive (m ∷ week)) 3360
+holds past m week H8 = not (is_drive m.mark) || nat_le (count is_drive (m ∷ week) + past.prev_drive) 5400
+holds past m week H9 =
+    not (is_working m.mark) || (nat_le (count is_working (m ∷ week)) 3600
+    && nat_le (count is_working (m ∷ week) + past.work_before) 48960)
+holds past m week H10 =
+    not (is_working m.mark) || nat_le (count is_working (since_pause (whole past (m ∷ week)))) 360
+holds past m week H11 =
+    let worked = count is_working (work_day_of (whole past (m ∷ week))) in
+    let paused = off_in_runs 15 (work_day_of (whole past (m ∷ week))) in
+    not (is_working m.mark) || ((nat_lt worked 361 || nat_le 30 paused) && (nat_lt worked 541 || nat_le 45 paused))
+
+-- the number in a rule's name
+abbrev pub number_of : Rule → ℕ
+number_of H1 = 1
+number_of H2 = 2
+number_of H3 = 3
+number_of H4 = 4
+number_of H5 = 5
+number_of H6 = 6
+number_of H7 = 7
+number_of H8 = 8
+number_of H9 = 9
+number_of H10 = 10
+number_of H11 = 11
+
+-- the rules, in the order in which the faults of one minute are named
+abbrev pub all_rules : List Rule
+all_rules = H1 ∷ H2 ∷ H3 ∷ H4 ∷ H5 ∷ H6 ∷ H7 ∷ H8 ∷ H9 ∷ H10 ∷ H11 ∷ []
+
+-- The least rule that fails at the minute m, which follows `week`.
+abbrev pub failing : Past → Minute → Minutes → Option Rule
+failing past m week = find (λ rule. not (holds past m week rule)) all_rules
+
+-- The fault that was there before, or else the one of this minute.
+abbrev pub first_of_two : Option Broken → Option Rule → ℕ → Option Broken
+first_of_two (Some fault) later minute = Some fault
+first_of_two None later minute = option_map (λ rule. record { rule = rule; minute = minute }) later
+
+-- The first minute of the week, from minute `from` on, at which a rule fails, with the least rule there.
+abbrev pub fault_from : ℕ → Past → Minutes → Option Broken
+fault_from from past [] = None
+fault_from from past (m ∷ week) =
+    first_of_two (fault_from from past week)
+    (if nat_lt (length week) from then None else failing past m week) (length week)
+
+-- The first minute of the week at which a rule fails, with the least rule there.
+abbrev pub fault : Past → Minutes → Option Broken
+fault past week = fault_from 0 past week
