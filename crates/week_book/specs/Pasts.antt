@@ -1,0 +1,88 @@
+-- What of a text's rows the histories and driven lines of its drivers rest on.
+use Rattle.std.specs.Prelude.{◌≡◌, ℕ, ◌≤◌, Bool, true, false, ◌&&◌, if◌then◌else◌, nat_le, int_le, pos, ℤ, List, [], ◌∷◌, length}
+use Rattle.std.specs.Str.{bytes_eq}
+use Rattle.minute_line.specs.Stints.{all_up_to}
+use Rattle.week_book.specs.declared.rows.Row.{Row}
+use Rattle.week_book.specs.declared.rows.Row.TheVariants.{Rest, Worked, Past, Did}
+use Rattle.week_book.specs.declared.rows.Word.{Word}
+use Rattle.week_book.specs.declared.rows.Word.TheVariants as word
+use Rattle.week_book.specs.Texts.{each_row}
+
+-- a mark word with its minutes, and the row that has them
+pub record Spell : Type 0 where
+  pub row : ℕ
+  pub word : Word
+  pub minutes : ℕ
+
+-- the end of a driver's last weekly rest, in minutes from Monday, and its length
+pub record Rested : Type 0 where
+  pub end : ℤ
+  pub minutes : ℕ
+
+-- a driver's Drive minutes of last week, and the working minutes of the sixteen weeks before
+pub record Toil : Type 0 where
+  pub last : ℕ
+  pub weeks : List ℕ
+
+-- the past rows of a driver, in order
+abbrev pub past_spells : List ℕ → List Row → List Spell
+past_spells name [] = []
+past_spells name (Past row driver w minutes ∷ rs) =
+    if bytes_eq driver name then record { row = row; word = w; minutes = minutes } ∷ past_spells name rs else past_spells name rs
+past_spells name (_ ∷ rs) = past_spells name rs
+
+-- the did rows of a driver, in order
+abbrev pub did_spells : List ℕ → List Row → List Spell
+did_spells name [] = []
+did_spells name (Did row driver w minutes ∷ rs) =
+    if bytes_eq driver name then record { row = row; word = w; minutes = minutes } ∷ did_spells name rs else did_spells name rs
+did_spells name (_ ∷ rs) = did_spells name rs
+
+-- the rest rows of a driver, in order
+abbrev pub rests_of : List ℕ → List Row → List Rested
+rests_of name [] = []
+rests_of name (Rest row driver end minutes ∷ rs) =
+    if bytes_eq driver name then record { end = end; minutes = minutes } ∷ rests_of name rs else rests_of name rs
+rests_of name (_ ∷ rs) = rests_of name rs
+
+-- the worked rows of a driver, in order
+abbrev pub toils_of : List ℕ → List Row → List Toil
+toils_of name [] = []
+toils_of name (Worked row driver last weeks ∷ rs) =
+    if bytes_eq driver name then record { last = last; weeks = weeks } ∷ toils_of name rs else toils_of name rs
+toils_of name (_ ∷ rs) = toils_of name rs
+
+-- OFF, DAILY and WEEKLY are off
+abbrev pub is_off_word : Word → Bool
+is_off_word word.Off = true
+is_off_word word.Daily = true
+is_off_word word.Weekly = true
+is_off_word word.Drive = false
+is_off_word word.Work = false
+is_off_word word.Ready = false
+
+-- a history row or a did row keeps the ranges of its own fields
+abbrev pub in_past_range : Row → Bool
+in_past_range (Rest row driver end minutes) = int_le end (pos 0) && (nat_le 1440 minutes && nat_le minutes 1000000)
+in_past_range (Worked row driver last weeks) = nat_le last 10080 && all_up_to 10080 weeks
+in_past_range (Past row driver w minutes) = nat_le 1 minutes && nat_le minutes 2000000
+in_past_range (Did row driver w minutes) = nat_le minutes 10080
+in_past_range _ = true
+
+-- each has a minute
+abbrev pub each_lasts : List Spell → Bool
+each_lasts [] = true
+each_lasts (s ∷ ss) = nat_le 1 s.minutes && each_lasts ss
+
+-- each has a minute, but for a first one that is off
+abbrev pub zero_first : List Spell → Bool
+zero_first [] = true
+zero_first (s ∷ ss) = (if is_off_word s.word then true else nat_le 1 s.minutes) && each_lasts ss
+
+-- rows whose history rows and did rows are in range, with at most one rest row and one worked row of a driver
+pub record HasPastRows (rows : List Row) : Type 0 where
+  pub few : length rows ≤ 1048576
+  pub ranges : each_row in_past_range rows ≡ true
+  pub rests : (name : List ℕ) → length (rests_of name rows) ≤ 1
+  pub toils : (name : List ℕ) → length (toils_of name rows) ≤ 1
+  pub zeros : (name : List ℕ) → zero_first (did_spells name rows) ≡ true
