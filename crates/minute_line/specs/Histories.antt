@@ -1,5 +1,7 @@
 -- What a history says.
-use Rattle.std.specs.Prelude.{ℕ, List, [], replicate}
+use Rattle.std.specs.Prelude.{ℕ, Bool, ◌&&◌, nat_le, nat_eq, List, [], length, replicate, false}
+use Rattle.minute_line.specs.Minutes.{total_of}
+use Rattle.minute_line.specs.Stints.{is_past, all_up_to}
 use Rattle.minute_line.specs.declared.marks.Stint.{Stint}
 use Rattle.minute_line.specs.declared.lines.History.{History}
 
@@ -24,3 +26,19 @@ fields_of h = record {
 -- a driver who was at rest for 45 hours before Monday, and did nothing before
 abbrev pub fresh_fields : Fields
 fresh_fields = record { prev_weekly = 2700; stints = []; open_off = 2700; prev_drive = 0; work16 = replicate 16 0 }
+
+-- the minutes of the last weekly rest and of the open off run are in range
+abbrev pub has_rests : Fields → Bool
+has_rests f = (nat_le 1440 f.prev_weekly && nat_le f.prev_weekly 1000000) && nat_le f.open_off 20160
+
+-- the sums of last week and of the sixteen weeks before are in range
+abbrev pub has_sums : Fields → Bool
+has_sums f = nat_le f.prev_drive 10080 && (nat_eq (length f.work16) 16 && all_up_to 10080 f.work16)
+
+-- the stints are those of a history, and not too many minutes
+abbrev pub has_stints : Fields → Bool
+has_stints f = is_past false f.stints && nat_le (total_of f.stints) 20160
+
+-- the fields are those of a history: a history has no others, and for such fields there is one
+abbrev pub is_history : Fields → Bool
+is_history f = has_rests f && (has_sums f && has_stints f)

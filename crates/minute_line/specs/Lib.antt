@@ -2,5 +2,9 @@ pub mod Marks
 pub mod Minutes
 pub mod Stints
 pub mod Histories
+pub mod Spelling
+pub mod Tokens
 pub mod DateText
 pub mod Answers
+pub mod DateWriting
+pub mod Writing

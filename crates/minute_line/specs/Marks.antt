@@ -1,5 +1,5 @@
 -- What a mark and a kind are.
-use Rattle.std.specs.Prelude.{Bool, true, false, not}
+use Rattle.std.specs.Prelude.{Bool, true, false}
 use Rattle.minute_line.specs.declared.marks.Mark.{Mark}
 use Rattle.minute_line.specs.declared.marks.Mark.TheVariants.{Drive, Work, Ready, Off}
 use Rattle.minute_line.specs.declared.marks.Kind.{Kind}

@@ -66,7 +66,7 @@ pub(crate) fn date(text: &[u8], low: u16, high: u16) -> Option<Date>
     }
 }
 
-// The Monday with that day number.
+/// The Monday with that day number.
 fn make_monday(day: i32) -> Monday
     requires within { IsBetween (pos 10957) (pos 47485) day }
     requires monday { weekday_number day ≡ 0 }

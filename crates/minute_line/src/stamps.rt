@@ -1,7 +1,8 @@
 // Stamps: a minute as a date and a time of day in UTC.
-ghost use Rattle.std.specs.Prelude.{◌≡◌, ◌↔◌, ◌+◌, ◌*◌, ◌≤◌, ◌<◌, pos, ◌*ℤ◌, ◌+ℤ◌, ◌-ℤ◌, ◌≤ℤ◌, neg_ℤ, IsSome, IfSome, length, slice_index};
+ghost use Rattle.std.specs.Prelude.{ℤ, List, ℕ, ◌≡◌, ◌↔◌, ◌+◌, ◌*◌, ◌≤◌, ◌<◌, pos, ◌*ℤ◌, ◌+ℤ◌, ◌-ℤ◌, ◌≤ℤ◌, neg_ℤ, IsSome, IfSome, length, slice_index};
 ghost use Rattle.jiff_core.specs.Calendar.{IsBetween, IsEpochDay};
 ghost use Rattle.jiff_core.specs.Date.{epoch_day};
+ghost use Rattle.minute_line.specs.DateWriting.{IsDayText};
 ghost use Rattle.minute_line.specs.DateText.{IsDigitAt, two_at, IsDateText, IsStampText, IsClockText, clock_minutes, stamp_minutes, text_day};
 
 use crate::dates::{Monday, date, two};
@@ -83,7 +84,7 @@ fn ascii(n: u8) -> [u8; 2]
 fn date_of(day: i32) -> Date
     requires { IsBetween (pos 10957) (pos 47492) day }
     ensures day { epoch_day result ≡ day }
-    ensures low { pos 1999 ≤ℤ result.year }
+    ensures low { pos 2000 ≤ℤ result.year }
     ensures high { result.year ≤ℤ pos 2100 }
 {
     let Ok(date) = jiff_core::civil::Date::from_unix_epoch_day(day as i64) else {
@@ -95,9 +96,9 @@ fn date_of(day: i32) -> Date
 /// The text of a date.
 #[tactic(auto, unfolding(crate::specs::DateText::IsDateText))]
 fn date_bytes(date: Date) -> [u8; 10]
-    requires low { pos 1999 ≤ℤ date.year }
+    requires low { pos 2000 ≤ℤ date.year }
     requires high { date.year ≤ℤ pos 2100 }
-    ensures form { IsDateText 1999 2100 result }
+    ensures form { IsDateText 2000 2100 result }
     ensures day { text_day result ≡ epoch_day date }
 {
     let year = date.year() as u16;
@@ -109,6 +110,19 @@ fn date_bytes(date: Date) -> [u8; 10]
         century[0], century[1], rest[0], rest[1], b'-', month[0], month[1], b'-', day[0], day[1],
     ]
 }
+
+/// The Monday as `YYYY-MM-DD`, which may be 2100-01-04 too.
+pub fn monday_text(monday: Monday) -> [u8; 10]
+    ensures { IsDayText monday.day result }
+{
+    date_bytes(date_of(monday.day))
+}
+
+/// A law, which does nothing: a day has one text.
+pub fn only_text()
+    ensures { (day : ℤ) → (first : List ℕ) → (second : List ℕ)
+        → IsDayText day first → IsDayText day second → first ≡ second }
+{}
 
 /// The stamp of a minute that lies at most a week after the Monday's midnight.
 pub fn stamp(monday: Monday, minute: u32) -> [u8; 16]

@@ -9,4 +9,5 @@ returns-clause-form c =
     let m = c.ascii-minutes.ensures in
     let hours : two_at c.ascii-hour.result 0 ≤ 23 = omega (arith, h.value) in
     let minutes : two_at c.ascii-minutes.result 0 ≤ 59 = omega (arith, m.value) in
-    (refl, c.date_bytes-date.ensures.form, ((refl, refl), (h.first, h.second, hours), (m.first, m.second, minutes)))
+    let date = c.date_bytes-date.ensures.form in
+    (refl, (date.0, (omega (arith, date.1.0), date.1.1), date.2), ((refl, refl), (h.first, h.second, hours), (m.first, m.second, minutes)))

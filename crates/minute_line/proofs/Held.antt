@@ -1,0 +1,107 @@
+-- The fields of a history, and the histories of fields.
+use Rattle.std.proofs.Common.{◌≡◌, ℕ, ◌≤◌, Bool, true, false, ◌&&◌, ◌||◌, not, nat_le, nat_eq, List, [], ◌∷◌, length, refl, arith}
+use Rattle.minute_line.specs.declared.lines.History.{History}
+use Rattle.minute_line.specs.declared.marks.Stint.{Stint}
+use Rattle.minute_line.specs.Marks.{is_off, is_weekly}
+use Rattle.minute_line.specs.Minutes.{total_of}
+use Rattle.minute_line.specs.Stints.{may_follow, each_follows, only_declares, is_line, is_past, all_up_to}
+use Rattle.minute_line.specs.Histories.{Fields, fields_of, has_rests, has_sums, has_stints, is_history}
+
+pub and_is : (a b : Bool) → (a && b) ≡ true → (a ≡ true) × (b ≡ true)
+and_is true b h = (refl, h)
+and_is false b h = absurd cc
+
+pub le_is : (a b : ℕ) → nat_le a b ≡ true → a ≤ b
+le_is a b h = grind arith
+
+pub nat_is : (a b : ℕ) → nat_eq a b ≡ true → a ≡ b
+nat_is a b h = grind arith
+
+both : (a b : Bool) → a ≡ true → b ≡ true → (a && b) ≡ true
+both a b p q = rw (p, q) refl
+
+le_true : (a b : ℕ) → a ≤ b → nat_le a b ≡ true
+le_true a b h = grind arith
+
+nat_true : (a b : ℕ) → a ≡ b → nat_eq a b ≡ true
+nat_true a b h = grind arith
+
+-- what fields of a history say, as facts
+pub record Holds (f : Fields) : Type 0 where
+  pub rest : (1440 ≤ f.prev_weekly) × (f.prev_weekly ≤ 1000000)
+  pub run : f.open_off ≤ 20160
+  pub drive : f.prev_drive ≤ 10080
+  pub sixteen : length f.work16 ≡ 16
+  pub weeks : all_up_to 10080 f.work16 ≡ true
+  pub shape : is_past false f.stints ≡ true
+  pub total : total_of f.stints ≤ 20160
+
+pub holds : (f : Fields) → is_history f ≡ true → Holds f
+holds f v =
+    let p = and_is (has_rests f) (has_sums f && has_stints f) v in
+    let o = and_is (nat_le 1440 f.prev_weekly && nat_le f.prev_weekly 1000000) (nat_le f.open_off 20160) p.0 in
+    let r = and_is (nat_le 1440 f.prev_weekly) (nat_le f.prev_weekly 1000000) o.0 in
+    let q = and_is (has_sums f) (has_stints f) p.1 in
+    let d = and_is (nat_le f.prev_drive 10080) (nat_eq (length f.work16) 16 && all_up_to 10080 f.work16) q.0 in
+    let w = and_is (nat_eq (length f.work16) 16) (all_up_to 10080 f.work16) d.1 in
+    let s = and_is (is_past false f.stints) (nat_le (total_of f.stints) 20160) q.1 in
+    record {
+      rest = (le_is 1440 f.prev_weekly r.0, le_is f.prev_weekly 1000000 r.1);
+      run = le_is f.open_off 20160 o.1;
+      drive = le_is f.prev_drive 10080 d.0;
+      sixteen = nat_is (length f.work16) 16 w.0;
+      weeks = w.1;
+      shape = s.0;
+      total = le_is (total_of f.stints) 20160 s.1;
+    }
+
+-- each history has the fields of a history
+pub is_history-fields_of : (h : History) → is_history (fields_of h) ≡ true
+is_history-fields_of h =
+    both (has_rests (fields_of h)) (has_sums (fields_of h) && has_stints (fields_of h))
+    (both (nat_le 1440 h.prev_weekly && nat_le h.prev_weekly 1000000) (nat_le h.open_off 20160)
+    (both (nat_le 1440 h.prev_weekly) (nat_le h.prev_weekly 1000000) (le_true 1440 h.prev_weekly h.rest.0) (le_true h.prev_weekly 1000000 h.rest.1))
+    (le_true h.open_off 20160 h.run))
+    (both (has_sums (fields_of h)) (has_stints (fields_of h))
+    (both (nat_le h.prev_drive 10080) (nat_eq (length h.work16) 16 && all_up_to 10080 h.work16) (le_true h.prev_drive 10080 h.drive)
+    (both (nat_eq (length h.work16) 16) (all_up_to 10080 h.work16) (nat_true (length h.work16) 16 h.sixteen) h.weeks))
+    (both (is_past false h.stints.stints) (nat_le (total_of h.stints.stints) 20160) h.shape (le_true (total_of h.stints.stints) 20160 h.total)))
+
+-- the stints of a history follow one another
+past_follows : (after : Bool) (ss : List Stint) → is_past after ss ≡ true → each_follows after ss ≡ true
+past_follows after [] h = refl
+past_follows after (s ∷ ss) h =
+    let p = and_is (may_follow after s && not (is_weekly s.kind)) (is_past (is_off s.mark) ss) h in
+    both (may_follow after s) (each_follows (is_off s.mark) ss) (and_is (may_follow after s) (not (is_weekly s.kind)) p.0).0 (past_follows (is_off s.mark) ss p.1)
+
+or_true : (a b : Bool) → b ≡ true → (a || b) ≡ true
+or_true true b h = refl
+or_true false b h = h
+
+-- the stints of a history are a line
+pub past_is_line : (ss : List Stint) → is_past false ss ≡ true → is_line ss ≡ true
+past_is_line [] h = refl
+past_is_line (s ∷ ss) h =
+    let p = and_is (may_follow false s) (each_follows (is_off s.mark) ss) (past_follows false (s ∷ ss) h) in
+    both (only_declares s || may_follow false s) (each_follows (is_off s.mark) ss) (or_true (only_declares s) (may_follow false s) p.0) p.1
+
+-- for such fields there is a history
+pub history_with : (f : Fields) → is_history f ≡ true → (h : History) × (fields_of h ≡ f)
+history_with f v =
+    let facts = holds f v in (
+      record {
+        prev_weekly = f.prev_weekly;
+        stints = record { stints = f.stints; shape = past_is_line f.stints facts.shape };
+        open_off = f.open_off;
+        prev_drive = f.prev_drive;
+        work16 = f.work16;
+        rest = facts.rest;
+        shape = facts.shape;
+        total = facts.total;
+        run = facts.run;
+        drive = facts.drive;
+        sixteen = facts.sixteen;
+        weeks = facts.weeks;
+      },
+      refl,
+    )
