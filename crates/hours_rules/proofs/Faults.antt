@@ -20,7 +20,7 @@ pub find-none : (test : Rule → Bool) (rs : List Rule) → ((r : Rule) → test
 find-none test [] h = refl
 find-none test (r ∷ rs) h = rw (h r) (find-none test rs h)
 
-find-same : (p q : Rule → Bool) (rs : List Rule) → ((r : Rule) → p r ≡ q r) → find p rs ≡ find q rs
+pub find-same : (p q : Rule → Bool) (rs : List Rule) → ((r : Rule) → p r ≡ q r) → find p rs ≡ find q rs
 find-same p q [] h = refl
 find-same p q (r ∷ rs) h = rw (h r, find-same p q rs h) refl
 
@@ -58,7 +58,7 @@ least_room-nth f n [] k r h = cc
 least_room-nth f n (x ∷ rs) zero r h = let e : x ≡ r = cc in rw (← e) (omega arith)
 least_room-nth f n (x ∷ rs) (suc k) r h = omega (arith, least_room-nth f n rs k r h)
 
-least_room-le : (f : Rule → ℕ) (n : ℕ) (r : Rule) → least_room f n all_rules ≤ f r
+pub least_room-le : (f : Rule → ℕ) (n : ℕ) (r : Rule) → least_room f n all_rules ≤ f r
 unfolding nth_rule
 least_room-le f n H1 = least_room-nth f n all_rules 0 H1 refl
 least_room-le f n H2 = least_room-nth f n all_rules 1 H2 refl
@@ -72,7 +72,7 @@ least_room-le f n H9 = least_room-nth f n all_rules 8 H9 refl
 least_room-le f n H10 = least_room-nth f n all_rules 9 H10 refl
 least_room-le f n H11 = least_room-nth f n all_rules 10 H11 refl
 
-least_room-at_most : (f : Rule → ℕ) (n : ℕ) (rs : List Rule) → least_room f n rs ≤ n
+pub least_room-at_most : (f : Rule → ℕ) (n : ℕ) (rs : List Rule) → least_room f n rs ≤ n
 least_room-at_most f n [] = omega arith
 least_room-at_most f n (r ∷ rs) = omega (arith, least_room-at_most f n rs)
 

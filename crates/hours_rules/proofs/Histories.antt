@@ -1,10 +1,17 @@
 -- A history keeps its bounds.
-use Rattle.std.proofs.Common.{ℕ, suc, ◌≡◌, ◌≤◌, ◌+◌, ◌*◌, ◌&&◌, true, nat_le, sum, List, [], ◌∷◌, length, arith}
+use Rattle.std.proofs.Common.{ℕ, ◌≡◌, ◌≤◌, ◌+◌, ◌*◌, true, sum, List, [], ◌∷◌, length, arith}
 use Rattle.std.proofs.Math.Nat.{mul-suc}
 use Rattle.std.proofs.lemmas.List.Sums.{sum_by-cons}
 use Rattle.minute_line.specs.declared.lines.History.{History}
+use Rattle.minute_line.specs.Minutes.{total_of}
 use Rattle.minute_line.specs.Stints.{all_up_to}
-use Rattle.hours_rules.specs.Verdicts.{IsHistory}
+
+-- what a history's bounds come to
+pub record IsHistory (h : History) : Type 0 where
+  pub stints : total_of h.stints.stints ≤ 20160
+  pub open_off : h.open_off ≤ 20160
+  pub prev_drive : h.prev_drive ≤ 10080
+  pub work16 : sum h.work16 ≤ 161280
 
 pub sum-all_up_to : (most : ℕ) (ns : List ℕ) → all_up_to most ns ≡ true → sum ns ≤ most * length ns
 sum-all_up_to most [] h = omega arith

@@ -11,8 +11,13 @@ pub mod Within
 pub mod Sizes
 pub mod Stints
 pub mod Starts
+pub mod Chains
 pub mod Simulate
 pub mod Waiting
 pub mod Longer
 pub mod Duties
 pub mod Sooner
+pub mod Determined
+pub mod Periods
+pub mod WorkDays
+pub mod Verdicts

@@ -15,7 +15,7 @@ use Rattle.hours_rules.proofs.Steps.{stands-duty, stands-off}
 use Rattle.hours_rules.proofs.Better.{holds-as_good, ended-as_good, ticked-as_good, rested-as_good}
 use Rattle.hours_rules.proofs.Faults.{find-none, all-hold, none_judged}
 
-off_mark : (mark : Mark) → is_duty mark ≡ false → mark ≡ Off
+pub off_mark : (mark : Mark) → is_duty mark ≡ false → mark ≡ Off
 off_mark Off h = refl
 off_mark Drive h = cc
 off_mark Work h = cc
@@ -33,12 +33,12 @@ judged_parts o p m w l h =
     let late : ltb (length w) o ≡ false = le-ltb _ _ l in
     split_fault (fault_from o p w) (failing p m w) (length w) (rw late at h)
 
-judged_join : (o : ℕ) (p : Past) (m : Minute) (w : Minutes) → o ≤ length w → fault_from o p w ≡ None → failing p m w ≡ None →
+pub judged_join : (o : ℕ) (p : Past) (m : Minute) (w : Minutes) → o ≤ length w → fault_from o p w ≡ None → failing p m w ≡ None →
     fault_from o p (m ∷ w) ≡ None
 judged_join o p m w l h g =
     let late : ltb (length w) o ≡ false = le-ltb _ _ l in rw (h, late, g) refl
 
-off_fine : (p : Past) (mark : Mark) (kind : Kind) (w : Minutes) → mark ≡ Off → failing p (record { mark = mark; kind = kind }) w ≡ None
+pub off_fine : (p : Past) (mark : Mark) (kind : Kind) (w : Minutes) → mark ≡ Off → failing p (record { mark = mark; kind = kind }) w ≡ None
 off_fine p Off kind w e = refl
 off_fine p Drive kind w e = cc
 off_fine p Work kind w e = cc

@@ -20,7 +20,8 @@ use Rattle.minute_line.specs.declared.marks.Kind.TheVariants.{Plain}
 use Rattle.minute_line.specs.Minutes.{reached_by}
 use Rattle.hours_rules.specs.declared.rules.Broken.{Broken}
 use Rattle.hours_rules.specs.Rules.{fault}
-use Rattle.hours_rules.specs.Verdicts.{past_of, week_of, IsHistory}
+use Rattle.hours_rules.specs.Verdicts.{past_of, week_of}
+use Rattle.hours_rules.proofs.Histories.{IsHistory}
 use Rattle.hours_rules.proofs.Faults.{fault-off, length-stretch}
 use Rattle.hours_rules.proofs.Stints.{length-stints, fault_stays-stints}
 use Rattle.hours_rules.proofs.Sizes.{within-stands}

@@ -1,5 +1,5 @@
 -- A stint is a block of minutes.
-use Rattle.std.proofs.Common.{◌≡◌, ℕ, ◌+◌, true, List, [], ◌∷◌, length, refl, fold, sym, Some}
+use Rattle.std.proofs.Common.{◌≡◌, ℕ, ◌+◌, true, false, List, [], ◌∷◌, length, refl, fold, sym, Some}
 use Rattle.minute_line.specs.declared.marks.Mark.{Mark}
 use Rattle.minute_line.specs.declared.marks.Mark.TheVariants.{Drive, Work, Ready, Off}
 use Rattle.minute_line.specs.declared.marks.Kind.{Kind}
@@ -7,9 +7,21 @@ use Rattle.minute_line.specs.declared.marks.Kind.TheVariants.{Plain}
 use Rattle.minute_line.specs.declared.marks.Stint.{Stint}
 use Rattle.minute_line.specs.Minutes.{Reached, stretch, add_block, add_stint}
 use Rattle.hours_rules.specs.declared.rules.Broken.{Broken}
-use Rattle.minute_line.specs.Marks.{is_duty}
+use Rattle.minute_line.specs.Marks.{is_duty, is_off}
 use Rattle.hours_rules.specs.Rules.{Past, fault_from}
 use Rattle.hours_rules.proofs.Faults.{fault_stays, length-stretch}
+
+pub off_mark : (mark : Mark) → is_off mark ≡ true → mark ≡ Off
+off_mark Off h = refl
+off_mark Drive h = cc
+off_mark Work h = cc
+off_mark Ready h = cc
+
+pub duty_mark : (mark : Mark) → is_off mark ≡ false → is_duty mark ≡ true
+duty_mark Off h = cc
+duty_mark Drive h = refl
+duty_mark Work h = refl
+duty_mark Ready h = refl
 
 pub block-off : (mark : Mark) (n : ℕ) (kind : Kind) (r : Reached) → mark ≡ Off →
     (add_block mark n kind r).minutes ≡ stretch n Off Plain r.minutes

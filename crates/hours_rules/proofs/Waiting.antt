@@ -1,5 +1,5 @@
 -- Ready minutes bring the earlier line to the minute of the later one.
-use Rattle.std.proofs.Common.{◌≡◌, ℕ, ◌+◌, ◌≤◌, Bool, true, not, ◌||◌, ◌∷◌, leb, length, refl, sym, arith, suc, None, pos, ℤ, ◌-ℤ◌, ◌≤ℤ◌, le-leb}
+use Rattle.std.proofs.Common.{◌≡◌, ℕ, ◌+◌, ◌≤◌, Bool, true, not, ◌||◌, ◌∷◌, leb, length, refl, sym, arith, suc, zero, ◌-◌, ◌∙◌, None, pos, ℤ, ◌-ℤ◌, ◌≤ℤ◌, le-leb}
 use Rattle.std.proofs.lemmas.Int.{ints}
 use Rattle.minute_line.specs.declared.marks.Mark.TheVariants.{Ready}
 use Rattle.minute_line.specs.declared.marks.Kind.TheVariants.{Plain}
@@ -12,7 +12,7 @@ use Rattle.minute_line.specs.Marks.{is_duty}
 use Rattle.hours_rules.specs.Counts.{work_day_of, since_weekly, times, ends_reduced}
 use Rattle.hours_rules.specs.Rules.{Past, fault_from, failing, whole}
 use Rattle.hours_rules.specs.Standing.{Stands}
-use Rattle.hours_rules.specs.Order.{IsAsGood, Together, IsEarlier, IsRested}
+use Rattle.hours_rules.specs.Order.{IsAsGood, Together, IsEarlier, IsRested, ReadyCatchesUp, LastKeepsLimits}
 use Rattle.hours_rules.specs.Machine.{run_ended, ticked, room, left_until}
 use Rattle.hours_rules.proofs.Faults.{no_fault-within, allows-clock, block-stands, none_judged, all-hold}
 
@@ -88,3 +88,43 @@ rested-last b p m w d h s = record {
   reduced = let l = within_limit (is_duty m.mark) (times ends_reduced (since_weekly (whole p (m ∷ w)))) 3 d (all-hold p m w h H4) in
       omega (arith, s.reduced, l);
 }
+
+-- the same from any earlier or equal minute
+pub ready_catches_up : ReadyCatchesUp
+ready_catches_up a b pa pb wa wb sa sb g t small = by_wait (b.at - a.at) refl
+  where
+    by_wait : (k : ℕ) → b.at - a.at ≡ k →
+        Together pa pb (stretch k Ready Plain wa) wb × (fault_from (length wa) pa (stretch k Ready Plain wa) ≡ None)
+    by_wait zero e = (
+      record {
+        first = a;
+        second = b;
+        as_good = let h = g.as_good in record {
+          at = omega (arith, g.at);
+          off = g.off.0 ∙ sym g.off.1;
+          day_from = h.day_from;
+          rest_from = h.rest_from;
+          period = h.period;
+          half = h.half;
+          drive_day = h.drive_day;
+          long_days = h.long_days;
+          split = h.split;
+          reduced = h.reduced;
+          prev_weekly = h.prev_weekly;
+          work_run = h.work_run;
+          work_day = h.work_day;
+          pause_day = h.pause_day;
+          drive_week = h.drive_week;
+          work_week = h.work_week;
+          prev_drive = h.prev_drive;
+          work_before = h.work_before;
+        };
+        first_stands = sa;
+        second_stands = sb;
+      },
+      none_judged (length wa) pa wa (omega arith),
+    )
+    by_wait (suc k) e = waiting a b pa pb wa wb k sa sb g t (omega (arith, g.at)) (omega (arith, g.at))
+
+pub last_keeps_limits : LastKeepsLimits
+last_keeps_limits b p m w s d h = rested-last b p m w d h s

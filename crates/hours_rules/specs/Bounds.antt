@@ -2,7 +2,7 @@
 use Rattle.std.specs.Prelude.{ℕ, ◌≤◌, pos, ◌+ℤ◌, ◌≤ℤ◌}
 use Rattle.hours_rules.specs.declared.clocks.Clock.{Clock}
 
--- Each number is one that a line of at most n minutes can have.
+-- each number is one that a line of at most n minutes can have
 pub record IsWithin (n : ℕ) (c : Clock) : Type 0 where
   pub at : c.at ≤ n
   pub off : c.off ≤ n

@@ -11,25 +11,25 @@ use Rattle.hours_rules.specs.declared.clocks.Stay.{Stay}
 use Rattle.hours_rules.specs.Rules.{Past, fault_from}
 use Rattle.hours_rules.specs.Standing.{Stands}
 
--- The line with `more` minutes on the clock's line: a new clock stands for it and no rule fails from minute `from` on,
--- or this is the first fault from there.
+-- the answer for a line: a clock stands for it and no rule fails from week minute `from` on, or this is the first
+-- fault from there
 abbrev pub Answers : ℕ → Past → Minutes → Result Clock Broken → Type 0
 Answers from past week answer =
     MatchResult answer (λ clock. Stands clock past week × (fault_from from past week ≡ None))
     (λ broken. fault_from from past week ≡ Some broken)
 
--- Whatever line the clock stands for, this is the answer for the line with a block of minutes added.
+-- whatever line the clock stands for, this is the answer for the line with a block of minutes added
 abbrev pub AnswersBlock : Clock → Mark → Kind → ℕ → Result Clock Broken → Type 0
 AnswersBlock clock mark kind minutes answer = (from : ℕ) (past : Past) (week : Minutes) → Stands clock past week →
     from ≤ length week → fault_from from past week ≡ None → Answers from past (stretch minutes mark kind week) answer
 
--- The week with a stay, and then some minutes of an act.
+-- the week with a stay, and then some minutes of an act
 abbrev pub with_stay : Stay → Mark → ℕ → Minutes → Minutes
 with_stay stay mark minutes week =
     stretch minutes mark stay.kind (stretch stay.off Off Plain (stretch stay.ready Ready Plain week))
 
--- Whatever line the clock stands for, and from whichever minute on no rule fails in it, this is the answer for the
--- line with a stay and an act added.
+-- whatever line the clock stands for, and from whichever minute on no rule fails in it, this is the answer for the
+-- line with a stay and an act added
 abbrev pub AnswersStay : Clock → Stay → Mark → ℕ → Result Clock Broken → Type 0
 AnswersStay clock stay mark minutes answer = (from : ℕ) (past : Past) (week : Minutes) → Stands clock past week →
     from ≤ length week → fault_from from past week ≡ None → Answers from past (with_stay stay mark minutes week) answer

@@ -1,7 +1,9 @@
 -- How a clock moves on. The contracts of the private functions cite this; no public clause does.
-use Rattle.std.specs.Prelude.{ℕ, ◌+◌, ◌-◌, Bool, false, not, ◌&&◌, ◌||◌, nat_lt, nat_le, if◌then◌else◌, pos, ◌-ℤ◌, min, int_lt, nat_abs, ℤ, int_le, List, [], ◌∷◌, Option, None, find, option_map}
+use Rattle.std.specs.Prelude.{ℕ, ◌+◌, ◌-◌, Bool, false, not, ◌&&◌, ◌||◌, nat_lt, nat_le, if◌then◌else◌, pos, ◌-ℤ◌, min, int_lt, nat_abs, ℤ, int_le, List, [], ◌∷◌, Option, None, find, option_map, ◌≤◌, ◌↔◌}
 use Rattle.minute_line.specs.declared.marks.Mark.{Mark}
+use Rattle.minute_line.specs.declared.marks.Mark.TheVariants.{Drive, Work, Ready}
 use Rattle.minute_line.specs.declared.marks.Kind.{Kind}
+use Rattle.minute_line.specs.declared.marks.Kind.TheVariants.{Plain}
 use Rattle.hours_rules.specs.declared.clocks.Clock.{Clock}
 use Rattle.hours_rules.specs.declared.rules.Rule.{Rule}
 use Rattle.hours_rules.specs.declared.rules.Rule.TheVariants.{H1, H2, H3, H4, H5, H6, H7, H8, H9, H10, H11}
@@ -9,28 +11,33 @@ use Rattle.hours_rules.specs.declared.rules.Broken.{Broken}
 use Rattle.hours_rules.specs.Rules.{least_rest, all_rules}
 use Rattle.minute_line.specs.Marks.{is_drive, is_working, is_daily, is_weekly, is_rest}
 
--- The open run, declared to be of this kind, ends here: it is a run, a rest, a Weekly one, a full break.
+-- the open run, declared to be of this kind, ends as a rest
 abbrev pub rest_here : Clock → Kind → Bool
 rest_here c kind = nat_le 1 c.off && is_rest kind
 
+-- it ends as a weekly rest
 abbrev pub weekly_here : Clock → Kind → Bool
 weekly_here c kind = nat_le 1 c.off && is_weekly kind
 
+-- it ends as a daily rest
 abbrev pub daily_here : Clock → Kind → Bool
 daily_here c kind = nat_le 1 c.off && is_daily kind
 
+-- it ends as a full break
 abbrev pub break_here : Clock → Bool
 break_here c = nat_le 45 c.off || (nat_le 30 c.off && c.half)
 
+-- it ends a long day that counts
 abbrev pub long_here : Clock → Kind → Bool
 long_here c kind = rest_here c kind && (nat_lt 540 c.drive_day && nat_lt c.off c.at)
 
+-- it ends as a reduced daily rest
 abbrev pub reduced_here : Clock → Kind → Bool
 reduced_here c kind =
     daily_here c kind && (not c.split
     && (nat_lt c.off 660 || int_lt (pos 780) ((pos c.at -ℤ c.day_from) -ℤ pos c.off)))
 
--- The clock once its open run, declared to be of this kind, has ended.
+-- the clock once its open run, declared to be of this kind, has ended
 abbrev pub run_ended : Clock → Kind → Clock
 run_ended c kind = record c {
   off = 0;
@@ -48,11 +55,11 @@ run_ended c kind = record c {
   pause_day = if rest_here c kind then 0 else min 45 ((if nat_le 15 c.off then c.off else 0) + c.pause_day);
 }
 
--- n minutes if the test holds.
+-- n minutes if the test holds
 abbrev pub if_so : Bool → ℕ → ℕ
 if_so test n = if test then n else 0
 
--- The clock after n more on-duty minutes of one mark, where no run is open.
+-- the clock after n more on-duty minutes of one mark, where no run is open
 abbrev pub ticked : Clock → Mark → ℕ → Clock
 ticked c mark n = record c {
   at = c.at + n;
@@ -64,24 +71,24 @@ ticked c mark n = record c {
   work_week = if_so (is_working mark) n + c.work_week;
 }
 
--- The clock after n more Off minutes.
+-- the clock after n more Off minutes
 abbrev pub rested : Clock → ℕ → Clock
 rested c n = record c { at = c.at + n; off = c.off + n }
 
--- More minutes than a line has.
+-- more minutes than a line has
 abbrev pub unlimited : ℕ
 unlimited = 20000
 
--- A limit that stands only where the test holds.
+-- a limit that stands only where the test holds
 abbrev pub limit_if : Bool → ℕ → ℕ
 limit_if test limit = if test then limit else unlimited
 
--- How many Ready minutes are left until so many minutes from where a span began.
+-- how many minutes are left until so many from where a span began
 abbrev pub left_until : ℕ → ℤ → ℕ → ℕ
 left_until limit from at = if int_le ((pos at -ℤ from)) (pos limit) then nat_abs (pos limit -ℤ (pos at -ℤ from)) else 0
 
--- How many minutes of one on-duty mark may follow by a rule, where `c` is the clock before them and `e` the clock once
--- its open run has ended.
+-- how many minutes of one on-duty mark may follow by a rule, where `c` is the clock before them and `e` the clock once
+-- its open run has ended
 abbrev pub room : Clock → Clock → Mark → Kind → Rule → ℕ
 room c e mark kind H1 = limit_if (is_drive mark) (270 - e.period)
 room c e mark kind H2 = limit_if (is_drive mark) ((if nat_lt e.long_days 2 then 600 else 540) - e.drive_day)
@@ -96,19 +103,36 @@ room c e mark kind H10 = limit_if (is_working mark) (360 - e.work_run)
 room c e mark kind H11 =
     limit_if (is_working mark && nat_lt e.pause_day 45) ((if nat_lt e.pause_day 30 then 360 else 540) - e.work_day)
 
--- The least room by some rules, and at most n.
+-- the least room by some rules, and at most n
 abbrev pub least_room : (Rule → ℕ) → ℕ → List Rule → ℕ
 least_room f n [] = n
 least_room f n (r ∷ rs) = min (f r) (least_room f n rs)
 
--- The first fault in n minutes, where each rule has so much room.
+-- the least rule whose room is at most so much, at the minute that this leads to from minute `at`
+abbrev pub fault_after : (Rule → ℕ) → ℕ → ℕ → Option Broken
+fault_after f at least =
+    option_map (λ rule. record { rule = rule; minute = at + least }) (find (λ rule. nat_le (f rule) least) all_rules)
+
+-- the first fault in n minutes from minute `at` on, where each rule has so much room
 abbrev pub fault_within : (Rule → ℕ) → ℕ → ℕ → Option Broken
 fault_within f at n =
-    if nat_le n (least_room f n all_rules) then None
-    else option_map (λ rule. record { rule = rule; minute = at + least_room f n all_rules })
-    (find (λ rule. nat_le (f rule) (least_room f n all_rules)) all_rules)
+    if nat_le n (least_room f n all_rules) then None else fault_after f at (least_room f n all_rules)
 
--- The clock of a line that was counted from its own start, once it stands before Monday.
+-- the room by the rules that are judged at each on-duty minute, as far as a block of minutes can tell
+abbrev pub IsDutyRoom : Clock → Clock → Kind → ℕ → Type 0
+IsDutyRoom c e kind least = (n : ℕ) → n ≤ unlimited → n ≤ least ↔
+    ((n ≤ room c e Ready kind H3) × (n ≤ room c e Ready kind H4) × (n ≤ room c e Ready kind H5) × (n ≤ room c e Ready kind H6))
+
+-- the room of working minutes by the rules on working time
+abbrev pub work_room : Clock → ℕ
+work_room e = min (min (room e e Work Plain H9) (room e e Work Plain H10)) (room e e Work Plain H11)
+
+-- the room of Drive minutes by the rules on driving
+abbrev pub drive_room : Clock → ℕ
+drive_room e =
+    min (min (min (room e e Drive Plain H1) (room e e Drive Plain H2)) (room e e Drive Plain H7)) (room e e Drive Plain H8)
+
+-- the clock of a line that was counted from its own start, once it stands before Monday
 abbrev pub at_monday : Clock → Clock
 at_monday c = record c {
   at = 0;

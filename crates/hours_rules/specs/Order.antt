@@ -1,11 +1,14 @@
 -- When one clock is at least as good as another.
-use Rattle.std.specs.Prelude.{◌≡◌, ◌≤◌, true, ◌≤ℤ◌, length, ◌++◌, None, pos, ◌-ℤ◌}
-use Rattle.minute_line.specs.Minutes.{Minutes}
+use Rattle.std.specs.Prelude.{◌≡◌, ◌≤◌, true, ◌≤ℤ◌, length, ◌++◌, None, pos, ◌-ℤ◌, ◌-◌, ◌∷◌}
+use Rattle.minute_line.specs.declared.marks.Mark.TheVariants.{Ready}
+use Rattle.minute_line.specs.declared.marks.Kind.TheVariants.{Plain}
+use Rattle.minute_line.specs.Marks.{is_duty}
+use Rattle.minute_line.specs.Minutes.{Minute, Minutes, stretch}
 use Rattle.hours_rules.specs.declared.clocks.Clock.{Clock}
-use Rattle.hours_rules.specs.Rules.{Past, fault_from}
+use Rattle.hours_rules.specs.Rules.{Past, fault_from, failing}
 use Rattle.hours_rules.specs.Standing.{Stands}
 
--- Every field of `a` is at least as good as that of `b`, at the same minute, with the same open run.
+-- every field of `a` is at least as good as that of `b`, at the same minute, with the same open run
 pub record IsAsGood (a b : Clock) : Type 0 where
   pub at : a.at ≡ b.at
   pub off : a.off ≡ b.off
@@ -26,7 +29,7 @@ pub record IsAsGood (a b : Clock) : Type 0 where
   pub prev_drive : a.prev_drive ≡ b.prev_drive
   pub work_before : a.work_before ≡ b.work_before
 
--- Two lines, with clocks that stand for them, the first as good as the second.
+-- two lines, with clocks that stand for them, the first as good as the second
 pub record Together (pa pb : Past) (wa wb : Minutes) : Type 0 where
   pub first : Clock
   pub second : Clock
@@ -34,20 +37,52 @@ pub record Together (pa pb : Past) (wa wb : Minutes) : Type 0 where
   pub first_stands : Stands first pa wa
   pub second_stands : Stands second pb wb
 
--- Minutes that break no rule after the second line break none after the first, and the order lasts.
+-- minutes that break no rule after the second line break none after the first, and the order lasts
 abbrev pub OrderLasts : Type 0
 OrderLasts = (pa pb : Past) (wa wb more : Minutes) → Together pa pb wa wb →
     fault_from (length wb) pb (more ++ wb) ≡ None →
     Together pa pb (more ++ wa) (more ++ wb) × (fault_from (length wa) pa (more ++ wa) ≡ None)
 
--- The first clock is as good as the second at an earlier or equal minute, and no run is open.
+-- the first clock is as good as the second at an earlier or equal minute, and no run is open
 pub record IsEarlier (a b : Clock) : Type 0 where
   pub at : a.at ≤ b.at
   pub off : (a.off ≡ 0) × (b.off ≡ 0)
   pub as_good : IsAsGood (record a { at = b.at }) b
 
--- The clock keeps the limits that are judged at any on-duty minute.
+-- the clock keeps the limits that are judged at any on-duty minute (Art. 8)
 pub record IsRested (c : Clock) : Type 0 where
   pub day : (pos c.at -ℤ c.day_from) ≤ℤ pos 900
   pub week : (pos c.at -ℤ c.rest_from) ≤ℤ pos 8640
   pub reduced : c.reduced ≤ 3
+
+-- a clock at an earlier minute that is as good is brought to the later one's minute by Ready minutes, with no rule
+-- broken, and is then as good in every field; the later one keeps the limits of an on-duty minute
+abbrev pub ReadyCatchesUp : Type 0
+ReadyCatchesUp = (a b : Clock) (pa pb : Past) (wa wb : Minutes) → Stands a pa wa → Stands b pb wb → IsEarlier a b →
+    IsRested b → b.at ≤ 10080 →
+    Together pa pb (stretch (b.at - a.at) Ready Plain wa) wb
+    × (fault_from (length wa) pa (stretch (b.at - a.at) Ready Plain wa) ≡ None)
+
+-- the last minute of a line keeps those limits where it is on duty and breaks no rule
+abbrev pub LastKeepsLimits : Type 0
+LastKeepsLimits = (b : Clock) (past : Past) (m : Minute) (week : Minutes) → Stands b past (m ∷ week) →
+    is_duty m.mark ≡ true → failing past m week ≡ None → IsRested b
+
+-- a clock is at least as good as another, which may be later: each of its numbers allows as much, and both or neither
+-- have a first part of a break
+pub record IsBetterClock (a b : Clock) : Type 0 where
+  pub at : a.at ≤ b.at
+  pub day_from : b.day_from ≤ℤ a.day_from
+  pub rest_from : b.rest_from ≤ℤ a.rest_from
+  pub period : a.period ≤ b.period
+  pub half : a.half ≡ b.half
+  pub drive_day : a.drive_day ≤ b.drive_day
+  pub long_days : a.long_days ≤ b.long_days
+  pub split : b.split ≡ true → a.split ≡ true
+  pub reduced : a.reduced ≤ b.reduced
+  pub prev_weekly : 2700 ≤ b.prev_weekly → 2700 ≤ a.prev_weekly
+  pub work_run : a.work_run ≤ b.work_run
+  pub work_day : a.work_day ≤ b.work_day
+  pub pause_day : b.pause_day ≤ a.pause_day
+  pub drive_week : a.drive_week ≤ b.drive_week
+  pub work_week : a.work_week ≤ b.work_week

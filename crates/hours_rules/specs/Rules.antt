@@ -9,29 +9,29 @@ use Rattle.hours_rules.specs.declared.rules.Broken.{Broken}
 use Rattle.minute_line.specs.Marks.{is_duty, is_drive, is_working}
 use Rattle.hours_rules.specs.Counts.{count, open_run, ends_run, work_day_of, since_weekly, since_pause, period_of, ends_reduced, ends_long, times, off_in_runs, last_weekly}
 
--- What stands before Monday.
+-- what stands before Monday: minutes, the weekly rest before them, and counts of earlier weeks
 pub record Past : Type 0 where
   pub minutes : Minutes
   pub prev_weekly : ℕ
   pub prev_drive : ℕ
   pub work_before : ℕ
 
--- The minutes of the week's line so far, with all that stands before them.
+-- the line: the week so far, with all that stands before it
 abbrev pub whole : Past → Minutes → Minutes
 whole past week = week ++ past.minutes
 
--- How many long days that count have ended.
+-- how many long days that count have ended (Art. 6(1))
 abbrev pub long_days_of : Minutes → Minutes → ℕ
 long_days_of past [] = 0
 long_days_of past (m ∷ week) = (if ends_long past m week then 1 else 0) + long_days_of past week
 
--- How long the off run must have been that is declared so, after a Weekly run of `weekly` minutes.
+-- how long an off run must be that is declared so, after a weekly rest of `weekly` minutes (Art. 4, 8(6))
 abbrev pub least_rest : Kind → ℕ → ℕ
 least_rest Plain weekly = 0
 least_rest Daily weekly = 540
 least_rest Weekly weekly = if nat_lt weekly 2700 then 2700 else 1440
 
--- The rule holds at the minute m, which follows `week`.
+-- the rule holds at the minute m, which follows `week`; each has the articles that `Rule` names
 abbrev pub holds : Past → Minute → Minutes → Rule → Bool
 holds past m week H1 =
     not (is_drive m.mark) || nat_le (count is_drive (period_of (whole past (m ∷ week)))) 270
@@ -75,22 +75,22 @@ number_of H11 = 11
 abbrev pub all_rules : List Rule
 all_rules = H1 ∷ H2 ∷ H3 ∷ H4 ∷ H5 ∷ H6 ∷ H7 ∷ H8 ∷ H9 ∷ H10 ∷ H11 ∷ []
 
--- The least rule that fails at the minute m, which follows `week`.
+-- the least rule that fails at the minute m, which follows `week`
 abbrev pub failing : Past → Minute → Minutes → Option Rule
 failing past m week = find (λ rule. not (holds past m week rule)) all_rules
 
--- The fault that was there before, or else the one of this minute.
+-- the fault that was there before, or else the one of this minute
 abbrev pub first_of_two : Option Broken → Option Rule → ℕ → Option Broken
 first_of_two (Some fault) later minute = Some fault
 first_of_two None later minute = option_map (λ rule. record { rule = rule; minute = minute }) later
 
--- The first minute of the week, from minute `from` on, at which a rule fails, with the least rule there.
+-- the first minute of the week, from minute `from` on, at which a rule fails, with the least rule there
 abbrev pub fault_from : ℕ → Past → Minutes → Option Broken
 fault_from from past [] = None
 fault_from from past (m ∷ week) =
     first_of_two (fault_from from past week)
     (if nat_lt (length week) from then None else failing past m week) (length week)
 
--- The first minute of the week at which a rule fails, with the least rule there.
+-- the first minute of the week at which a rule fails, with the least rule there
 abbrev pub fault : Past → Minutes → Option Broken
 fault past week = fault_from 0 past week

@@ -6,7 +6,7 @@ use Rattle.minute_line.specs.Marks.{is_drive, is_working}
 use Rattle.hours_rules.specs.Counts.{count, open_run, has_run, work_day_of, since_weekly, since_pause, period_of, ends_reduced, times, off_in_runs, last_weekly}
 use Rattle.hours_rules.specs.Rules.{Past, whole, long_days_of}
 
--- The clock stands for a line that is cut after `week`.
+-- the clock stands for a line that is cut after `week`: each field is what its name says, counted over that line
 pub record Stands (clock : Clock) (past : Past) (week : Minutes) : Type 0 where
   pub at : clock.at ≡ length week
   pub off : clock.off ≡ open_run (whole past week)

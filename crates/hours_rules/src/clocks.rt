@@ -1,8 +1,8 @@
-// What of a line the rules read.
+// What of a line the rules read, and what a step of a duty adds before its act.
 use minute_line::Kind;
 
 /// The numbers of a line, cut at a week minute, that the rules read. Lengths and counts are minutes.
-#[derive(Clone, Copy, Debug)]
+#[derive(Clone, Copy, PartialEq, Eq, Debug)]
 pub struct Clock {
     /// The week minute reached.
     pub at: u32,
@@ -14,14 +14,10 @@ pub struct Clock {
     pub rest_from: i32,
     /// The Drive minutes of the driving period.
     pub period: u32,
-    /// Whether the driving period has an off run of 15 or more, the first part of a break.
-    pub half: bool,
     /// The Drive minutes of the work day.
     pub drive_day: u32,
     /// How many long days that count in the week have ended.
     pub long_days: u32,
-    /// Whether the work day has an off run of 180 or more.
-    pub split: bool,
     /// How many reduced daily rests have ended since the last weekly rest.
     pub reduced: u32,
     /// The length of the last weekly rest.
@@ -40,12 +36,23 @@ pub struct Clock {
     pub prev_drive: u32,
     /// The working minutes of the sixteen weeks before.
     pub work_before: u32,
+    /// Whether the driving period has an off run of 15 or more, the first part of a break.
+    pub half: bool,
+    /// Whether the work day has an off run of 180 or more.
+    pub split: bool,
 }
+
+// A label of pricing holds a clock, and there are up to two million of them. The flags stand last, so that they share a
+// word.
+const _: () = prove!(size_of::<Clock>() <= 72);
 
 /// What a driver does at a place before an act: `ready` Ready minutes, then `off` Off minutes of a kind.
 #[derive(Clone, Copy, PartialEq, Eq, Debug)]
 pub struct Stay {
+    /// The Ready minutes, which come first.
     pub ready: u32,
+    /// The Off minutes after them. They go into an off run that is open already.
     pub off: u32,
+    /// What the off run is declared to be once the act ends it.
     pub kind: Kind,
 }

@@ -3,32 +3,21 @@ ghost use Rattle.std.specs.Prelude.{◌≡◌, ℕ, ◌+◌, ◌≤◌, ◌<◌,
 ghost use Rattle.minute_line.specs.Minutes.{Reached, add_stint, total_of};
 ghost use Rattle.hours_rules.specs.Rules.{Past, fault};
 ghost use Rattle.minute_line.specs.Marks.{is_duty};
-ghost use Rattle.hours_rules.specs.Standing.{Stands};
+ghost use Rattle.hours_rules.specs.Standing.{Stands, IsClock};
 ghost use Rattle.hours_rules.specs.Machine.{at_monday};
 ghost use Rattle.hours_rules.specs.Bounds.{IsWithin};
-ghost use Rattle.hours_rules.specs.Verdicts.{past_of, week_of, verdict_of, AnswersStint, StandsAfter, TakesKind};
-ghost use Rattle.hours_rules.specs.Order.{OrderLasts};
+ghost use Rattle.hours_rules.specs.Verdicts.{past_of, week_of, verdict_of};
+ghost use Rattle.hours_rules.specs.Stints.{AnswersStint, StandsAfter, TakesKind};
 
 use crate::going::on_duty;
 use crate::{Broken, Clock, Verdict};
-use minute_line::{History, Kind, Line, Mark, Stint};
-
-fn is_off(mark: Mark) -> bool
-    ensures { (result ≡ true → mark ≡ Mark.Off) × (result ≡ false → is_duty mark ≡ true) }
-{
-    match mark {
-        Mark::Off => true,
-        Mark::Drive => false,
-        Mark::Work => false,
-        Mark::Ready => false,
-    }
-}
+use minute_line::{History, Kind, Line, Stint};
 
 /// What the off run before the next stint is declared to be.
 fn declared_after(stint: &Stint) -> Kind
     ensures { TakesKind stint.now result }
 {
-    if is_off(stint.mark) {
+    if stint.mark.is_off() {
         stint.kind
     } else {
         Kind::Plain
@@ -41,7 +30,7 @@ fn pass(clock: &Clock, declared: Kind, stint: &Stint) -> Clock
     requires few { stint.now.minutes ≤ 20160 }
     ensures { StandsAfter clock.now declared stint.now result }
 {
-    if is_off(stint.mark) {
+    if stint.mark.is_off() {
         return clock.rest(stint.minutes);
     }
     if stint.minutes == 0 {
@@ -56,7 +45,7 @@ fn judged(clock: &Clock, declared: Kind, stint: &Stint) -> Result<Clock, Broken>
     requires few { stint.now.minutes ≤ 20000 }
     ensures { AnswersStint clock.now declared stint.now result }
 {
-    if is_off(stint.mark) {
+    if stint.mark.is_off() {
         return Ok(clock.rest(stint.minutes));
     }
     on_duty(clock, stint.mark, declared, stint.minutes)
@@ -86,9 +75,10 @@ fn sum_of_weeks(weeks: &[u32]) -> u32
     weeks.iter().sum()
 }
 
-/// The clock of a history at Monday 00:00.
+/// The clock of a history at Monday 00:00. It takes no memory, and time grows with the history's stints.
 pub fn start(history: &History) -> Clock
-    ensures { Stands result (past_of history.now) [] }
+    ensures line { Stands result (past_of history.now) [] }
+    ensures clock { IsClock result }
 {
     let mut clock = Clock {
         at: 0,
@@ -119,7 +109,9 @@ pub fn start(history: &History) -> Clock
     to_monday(&rested)
 }
 
-/// The first minute of the week at which a rule fails, with the least rule there.
+/// What the rules say of a week's line after a history: the first minute at which one fails, with the least rule there.
+///
+/// The line has at most 10,080 minutes, and what is missing is Off. It takes no memory, and time grows with the stints.
 pub fn judge(history: &History, line: &Line) -> Verdict
     requires { total_of line.now.stints ≤ 10080 }
     ensures { result ≡ verdict_of (fault (past_of history.now) (week_of line.now)) }
@@ -135,8 +127,3 @@ pub fn judge(history: &History, line: &Line) -> Verdict
     }
     Verdict::Lawful
 }
-
-/// A completion that is lawful after a line is lawful after a line whose clock is as good.
-pub fn order_lasts()
-    ensures { OrderLasts }
-{}

@@ -5,10 +5,20 @@
 mod clocks;
 mod going;
 mod judging;
+mod laws;
+mod limits;
 mod moves;
+#[cfg(test)]
+mod plain;
 mod rules;
+#[cfg(test)]
+mod tests;
 
 pub use clocks::{Clock, Stay};
 pub use going::go;
-pub use judging::{judge, order_lasts, start};
+pub use judging::{judge, start};
+pub use laws::{
+    day_follows_rest, fault_is_first, fifteen_then_thirty_end_a_period, forty_five_ends_a_period,
+    last_keeps_limits, order_lasts, ready_catches_up, thirty_then_fifteen_end_none,
+};
 pub use rules::{Broken, Rule, Verdict, number};

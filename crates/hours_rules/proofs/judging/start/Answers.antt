@@ -3,8 +3,9 @@ use Rattle.std.proofs.lemmas.List.{take_all}
 use Rattle.std.proofs.lemmas.List.Sums.{fold_more}
 use Rattle.minute_line.specs.declared.marks.Kind.TheVariants.{Plain}
 use Rattle.minute_line.specs.Minutes.{add_stint, nothing}
-use Rattle.hours_rules.specs.Verdicts.{before_history}
+use Rattle.hours_rules.specs.Stints.{before_history}
 use Rattle.hours_rules.proofs.Histories.{is_history}
+use Rattle.hours_rules.proofs.Chains.{starts-off}
 use Rattle.hours_rules.proofs.Starts.{within-read, stands-monday}
 use Rattle.hours_rules.proofs.Within.{within-rested}
 use Rattle.hours_rules.proofs.Blocks.{stands-off_block}
@@ -37,14 +38,17 @@ to_monday-requires c = let h = is_history c.args.history.now in record {
       c.loop-stint.invariant.stands (rw c.as_slice-stint-items.ensures h.stints) (omega arith) (omega arith) (omega arith)));
 }
 
-pub returns : goal.returns
-returns c =
+pub returns-clause-line : goal.returns-clause-line
+returns-clause-line c =
     let all : take c.loop-stint.stint-index c.as_slice-stint-items.result.now ≡ c.args.history.now.stints.stints =
     take_all c.loop-stint.stint-index c.as_slice-stint-items.result.now c.loop-stint-test.false ∙ c.as_slice-stint-items.ensures in
     let s = rw all at c.loop-stint.invariant.stands in
     rw (c.to_monday.ensures, c.rest-rested.ensures)
     (stands-monday _ (before_history c.args.history.now) _ refl
     (stands-off_block c.loop-stint.clock (before_history c.args.history.now) c.args.history.now.open_off Plain _ s))
+
+pub returns-clause-clock : goal.returns-clause-clock
+returns-clause-clock c = starts-off c.to_monday.result c.args.history.now (returns-clause-line c)
 
 pub sum_of_weeks-requires : goal.sum_of_weeks-requires
 sum_of_weeks-requires c = let h = is_history c.args.history.now in omega arith

@@ -1,26 +1,20 @@
-use Rattle.std.proofs.Common.{◌∙◌, arith, sym, ◌<◌}
-use Rattle.hours_rules.specs.Machine.{room}
-use Rattle.hours_rules.specs.Rules.{all_rules}
-use Rattle.hours_rules.proofs.Least.{least_start, least_more, least_all}
+use Rattle.std.proofs.Common.{◌∙◌, sym}
+use Rattle.hours_rules.proofs.Least.{least_duty, least_work, least_drive}
 use Rattle.hours_rules.proofs.clocks.Clock.least_room.Goals as goal
 
-pub loop-rule-init : goal.loop-rule-init
-loop-rule-init c = record {
-  so_far = least_start (room c.args.self.now c.args.ended.now c.args.mark c.args.kind) c.args.minutes all_rules;
-  small = omega arith;
-}
+pub returns-then-not-is_working : goal.returns-then-not-is_working
+returns-then-not-is_working c =
+    c.min-duty.ensures ∙ least_duty c.args.self.now c.args.ended.now c.args.mark c.args.kind c.args.minutes c.duty_room.result
+    (sym c.is_working.ensures ∙ c.if-not-is_working.true) c.requires.few c.duty_room.ensures
 
-pub loop-rule-preserved : goal.loop-rule-preserved
-loop-rule-preserved c = record {
-  so_far =
-      let h : c.loop-rule.rule-index < 11 = omega arith in
-      rw (c.min-least.ensures, c.room.ensures)
-      (least_more (room c.args.self.now c.args.ended.now c.args.mark c.args.kind) c.args.minutes c.loop-rule.least all_rules c.loop-rule.rule-index _ h
-      ∙ c.loop-rule.invariant.so_far);
-  small = omega arith;
-}
+pub returns-then-not-is_drive : goal.returns-then-not-is_drive
+returns-then-not-is_drive c =
+    rw (c.min-work.ensures, c.min-duty.ensures, c.work_room.ensures)
+    (least_work c.args.self.now c.args.ended.now c.args.mark c.args.kind c.args.minutes c.duty_room.result
+    (sym c.is_working.ensures ∙ c.if-not-is_working.false) (sym c.is_drive.ensures ∙ c.if-not-is_drive.true) c.requires.few c.duty_room.ensures)
 
 pub returns : goal.returns
 returns c =
-    sym (least_all (room c.args.self.now c.args.ended.now c.args.mark c.args.kind) c.args.minutes c.loop-rule.least all_rules c.loop-rule.rule-index (omega arith) c.loop-rule.invariant.small)
-    ∙ c.loop-rule.invariant.so_far
+    rw (c.min.ensures, c.min-work.ensures, c.min-duty.ensures, c.work_room.ensures, c.drive_room.ensures)
+    (least_drive c.args.self.now c.args.ended.now c.args.mark c.args.kind c.args.minutes c.duty_room.result
+    (sym c.is_drive.ensures ∙ c.if-not-is_drive.false) c.requires.few c.duty_room.ensures)

@@ -1,7 +1,7 @@
 use Rattle.std.proofs.Common.{◌≡◌, drop, find, nat_le}
 use Rattle.hours_rules.specs.Machine.{room}
 use Rattle.hours_rules.specs.Rules.{all_rules}
-use Rattle.hours_rules.proofs.clocks.Clock.first_fault.Given as goal
+use Rattle.hours_rules.proofs.clocks.Clock.fault_after.Given as goal
 
 abbrev pub invariant-loop-rule : goal.invariant-loop-rule
 invariant-loop-rule l =

@@ -1,0 +1,44 @@
+// What the definitions come to, in the words of the regulation: laws, whose functions do nothing.
+ghost use Rattle.hours_rules.specs.Laws.{FortyFiveEnds, FifteenThenThirtyEnds, ThirtyThenFifteenGoesOn, FaultIsFirst, DayFollowsRest};
+ghost use Rattle.hours_rules.specs.Order.{OrderLasts, ReadyCatchesUp, LastKeepsLimits};
+
+/// The law that an off run of 45 minutes always ends the driving period (Art. 7).
+pub fn forty_five_ends_a_period()
+    ensures { FortyFiveEnds }
+{}
+
+/// The law that 15 minutes and then 30 end the driving period.
+pub fn fifteen_then_thirty_end_a_period()
+    ensures { FifteenThenThirtyEnds }
+{}
+
+/// The law that 30 minutes and then 15 don't.
+pub fn thirty_then_fifteen_end_none()
+    ensures { ThirtyThenFifteenGoesOn }
+{}
+
+/// The law that a fault is the least rule of the first minute at which one fails, and that all rules hold all week
+/// where there is none.
+pub fn fault_is_first()
+    ensures { FaultIsFirst }
+{}
+
+/// The law that the work day of a minute begins after the last daily or weekly rest that ended before it.
+pub fn day_follows_rest()
+    ensures { DayFollowsRest }
+{}
+
+/// The law that minutes which break no rule after a line break none after a line whose clock is as good.
+pub fn order_lasts()
+    ensures { OrderLasts }
+{}
+
+/// The law that Ready minutes bring an earlier clock that is as good to the later one's minute.
+pub fn ready_catches_up()
+    ensures { ReadyCatchesUp }
+{}
+
+/// The law that a clock keeps the limits of rest and time where its last minute was on duty and broke no rule.
+pub fn last_keeps_limits()
+    ensures { LastKeepsLimits }
+{}

@@ -1,0 +1,235 @@
+// How many on-duty minutes the rules let follow a clock, and which rule fails at the next one.
+ghost use Rattle.std.specs.Prelude.{◌≡◌, ℕ, ◌+◌, ◌-◌, ◌^◌, ◌≤◌, ◌<◌, ◌&&◌, nat_le, nat_lt, min, if◌then◌else◌};
+ghost use Rattle.hours_rules.specs.Machine.{room, limit_if, left_until, least_room, fault_after, fault_within, IsDutyRoom, work_room, drive_room};
+ghost use Rattle.hours_rules.specs.Rules.{least_rest, all_rules};
+ghost use Rattle.hours_rules.specs.Bounds.{IsWithin};
+
+use crate::{Broken, Clock, Rule};
+use minute_line::{Kind, Mark};
+
+/// More minutes than a line has.
+const UNLIMITED: u32 = 20000;
+
+/// The rules in the order in which they are named.
+const RULES: [Rule; 11] = [
+    Rule::H1,
+    Rule::H2,
+    Rule::H3,
+    Rule::H4,
+    Rule::H5,
+    Rule::H6,
+    Rule::H7,
+    Rule::H8,
+    Rule::H9,
+    Rule::H10,
+    Rule::H11,
+];
+
+/// How long a run that is declared so must be, after a weekly rest of so many minutes (Art. 4, 8(6)).
+#[inline]
+fn least_run(kind: Kind, weekly: u32) -> u32
+    ensures { result ≡ least_rest kind weekly }
+{
+    match kind {
+        Kind::Plain => 0,
+        Kind::Daily => 540,
+        Kind::Weekly if weekly < 2700 => 2700,
+        Kind::Weekly => 1440,
+    }
+}
+
+/// A limit that stands only where the test holds.
+fn limit_if(test: bool, limit: u32) -> u32
+    ensures { result ≡ limit_if test limit }
+{
+    if test { limit } else { UNLIMITED }
+}
+
+impl Clock {
+    /// How many minutes are left of the first 900 of the work day.
+    #[inline]
+    fn day_left(&self) -> u32
+        requires { IsWithin 100000 self.now }
+        ensures { result ≡ left_until 900 self.now.day_from self.now.at }
+    {
+        let used = self.at as i32 - self.day_from;
+        if used <= 900 {
+            (900 - used).unsigned_abs()
+        } else {
+            0
+        }
+    }
+
+    /// How many minutes are left of the first 8,640 after the last weekly rest.
+    #[inline]
+    fn rest_left(&self) -> u32
+        requires { IsWithin 100000 self.now }
+        ensures { result ≡ left_until 8640 self.now.rest_from self.now.at }
+    {
+        let used = self.at as i32 - self.rest_from;
+        if used <= 8640 {
+            (8640 - used).unsigned_abs()
+        } else {
+            0
+        }
+    }
+
+    /// How many Drive minutes are left of the work day: 540, or 600 on two days of the week.
+    #[inline]
+    fn drive_left(&self) -> u32
+        ensures { result ≡ (if nat_lt self.now.long_days 2 then 600 else 540) - self.now.drive_day }
+    {
+        let limit: u32 = if self.long_days < 2 { 600 } else { 540 };
+        limit.saturating_sub(self.drive_day)
+    }
+
+    /// How many working minutes are left of the week, and of the four months.
+    #[inline]
+    fn work_left(&self) -> u32
+        requires { IsWithin 100000 self.now }
+        ensures { result ≡ min (3600 - self.now.work_week) (48960 - (self.now.work_week + self.now.work_before)) }
+    {
+        let four_months = 48960u32.saturating_sub(self.work_week + self.work_before);
+        3600u32.saturating_sub(self.work_week).min(four_months)
+    }
+
+    /// How many working minutes are left until the work day wants more pauses than it has.
+    #[inline]
+    fn pause_left(&self) -> u32
+        ensures { result ≡ limit_if (nat_lt self.now.pause_day 45) ((if nat_lt self.now.pause_day 30 then 360 else 540) - self.now.work_day) }
+    {
+        if self.pause_day >= 45 {
+            return UNLIMITED;
+        }
+        let limit: u32 = if self.pause_day < 30 { 360 } else { 540 };
+        limit.saturating_sub(self.work_day)
+    }
+
+    /// Whether the open run is too short for what it is declared to be.
+    #[inline]
+    fn is_short(&self, kind: Kind) -> bool
+        ensures { result ≡ (nat_le 1 self.now.off && nat_lt self.now.off (least_rest kind self.now.prev_weekly)) }
+    {
+        self.off >= 1 && self.off < least_run(kind, self.prev_weekly)
+    }
+
+    /// How many on-duty minutes of one mark may follow by one rule, where `ended` is this clock once its run has ended.
+    fn room(&self, ended: &Clock, mark: Mark, kind: Kind, rule: Rule) -> u32
+        requires within { IsWithin 100000 ended.now }
+        ensures { result ≡ room self.now ended.now mark kind rule }
+    {
+        let drive = mark.is_drive();
+        let working = mark.is_working();
+        match rule {
+            Rule::H1 => limit_if(drive, 270u32.saturating_sub(ended.period)),
+            Rule::H2 => limit_if(drive, ended.drive_left()),
+            Rule::H3 => ended.day_left(),
+            Rule::H4 => limit_if(ended.reduced > 3, 0),
+            Rule::H5 => limit_if(self.is_short(kind), 0),
+            Rule::H6 => ended.rest_left(),
+            Rule::H7 => limit_if(drive, 3360u32.saturating_sub(ended.drive_week)),
+            Rule::H8 => limit_if(
+                drive,
+                5400u32.saturating_sub(ended.drive_week + ended.prev_drive),
+            ),
+            Rule::H9 => limit_if(working, ended.work_left()),
+            Rule::H10 => limit_if(working, 360u32.saturating_sub(ended.work_run)),
+            Rule::H11 => limit_if(working, ended.pause_left()),
+        }
+    }
+
+    /// How many on-duty minutes the rules allow that are judged at each of them: H3 to H6.
+    #[inline]
+    fn duty_room(&self, ended: &Clock, kind: Kind) -> u32
+        requires within { IsWithin 100000 ended.now }
+        ensures { IsDutyRoom self.now ended.now kind result }
+    {
+        if ended.reduced > 3 || self.is_short(kind) {
+            return 0;
+        }
+        ended.day_left().min(ended.rest_left())
+    }
+
+    /// How many working minutes the rules on working time allow: H9 to H11.
+    #[inline]
+    fn work_room(&self) -> u32
+        requires { IsWithin 100000 self.now }
+        ensures { result ≡ work_room self.now }
+    {
+        self.work_left()
+            .min(360u32.saturating_sub(self.work_run))
+            .min(self.pause_left())
+    }
+
+    /// How many Drive minutes the rules on driving allow: H1, H2, H7 and H8.
+    #[inline]
+    fn drive_room(&self) -> u32
+        requires { IsWithin 100000 self.now }
+        ensures { result ≡ drive_room self.now }
+    {
+        let week = 3360u32.saturating_sub(self.drive_week);
+        let fortnight = 5400u32.saturating_sub(self.drive_week + self.prev_drive);
+        270u32
+            .saturating_sub(self.period)
+            .min(self.drive_left())
+            .min(week)
+            .min(fortnight)
+    }
+
+    /// How many of some on-duty minutes all rules allow.
+    #[inline]
+    fn least_room(&self, ended: &Clock, mark: Mark, kind: Kind, minutes: u32) -> u32
+        requires within { IsWithin 100000 ended.now }
+        requires few { minutes ≤ 20000 }
+        ensures { result ≡ least_room (room self.now ended.now mark kind) minutes all_rules }
+    {
+        let duty = minutes.min(self.duty_room(ended, kind));
+        if !mark.is_working() {
+            return duty;
+        }
+        let work = duty.min(ended.work_room());
+        if !mark.is_drive() {
+            return work;
+        }
+        work.min(ended.drive_room())
+    }
+
+    /// The least rule that allows no more than so many minutes, with the minute that they lead to.
+    #[cold]
+    fn fault_after(&self, ended: &Clock, mark: Mark, kind: Kind, least: u32) -> Option<Broken>
+        requires within { IsWithin 100000 ended.now }
+        requires end { self.now.at + least < 2 ^ 32 }
+        ensures { result ≡ fault_after (room self.now ended.now mark kind) self.now.at least }
+    {
+        for rule in RULES.iter() {
+            if self.room(ended, mark, kind, *rule) <= least {
+                return Some(Broken {
+                    rule: *rule,
+                    minute: self.at + least,
+                });
+            }
+        }
+        None
+    }
+
+    /// The first fault in some on-duty minutes.
+    #[inline]
+    pub(crate) fn first_fault(
+        &self,
+        ended: &Clock,
+        mark: Mark,
+        kind: Kind,
+        minutes: u32,
+    ) -> Option<Broken>
+        requires within { IsWithin 100000 ended.now }
+        requires at { self.now.at ≤ 100000 }
+        requires few { minutes ≤ 20000 }
+        ensures { result ≡ fault_within (room self.now ended.now mark kind) self.now.at minutes }
+    {
+        let least = self.least_room(ended, mark, kind, minutes);
+        if minutes <= least {
+            return None;
+        }
+        self.fault_after(ended, mark, kind, least)
+    }
+}
