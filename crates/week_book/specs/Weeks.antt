@@ -1,9 +1,12 @@
 -- What the numbers of a week name, and which weeks are checked ones.
-use Rattle.std.specs.Prelude.{◌≡◌, ◌≢◌, ℕ, ◌<◌, ◌≤◌, ◌&&◌, ◌==◌, ◌⊎◌, length, Option, find, slice_get, All}
+use Rattle.std.specs.Prelude.{◌≡◌, ◌≢◌, ℕ, ◌<◌, ◌≤◌, Bool, true, ◌&&◌, ◌==◌, ◌⊎◌, List, length, map, Option, find, slice_get, All}
+use Rattle.std.specs.List.{IsDistinct}
+use Rattle.std.specs.Str.{bytes_eq}
 use Rattle.week_book.specs.declared.weeks.Leg.{Leg}
 use Rattle.week_book.specs.declared.weeks.Order.{Order}
 use Rattle.week_book.specs.declared.weeks.Driver.{Driver}
 use Rattle.week_book.specs.declared.weeks.Week.{Week}
+use Rattle.week_book.specs.Names.{is_name}
 
 -- the road from one place to another, or none
 abbrev pub road : Week → ℕ → ℕ → Option Leg
@@ -38,6 +41,15 @@ pub record IsOrder (places : ℕ) (order : Order) : Type 0 where
   pub kg : order.kg ≤ 100000
   pub price : order.price ≤ 100000000
 
+-- the names of a kind: each is a name, and no two are the same
+pub record AreNames (names : List (List ℕ)) : Type 0 where
+  pub formed : All (λ name. is_name name ≡ true) names
+  pub distinct : IsDistinct bytes_eq names
+
+-- two legs lead from the same place to the same place
+abbrev pub same_ends : Leg → Leg → Bool
+same_ends a b = (a.from == b.from) && (a.to == b.to)
+
 -- a checked week
 pub record IsWeek (week : Week) : Type 0 where
   pub load : (1 ≤ week.load) × (week.load ≤ 240)
@@ -48,3 +60,7 @@ pub record IsWeek (week : Week) : Type 0 where
   pub legs : All (IsLeg (length week.places)) week.legs
   pub drivers : All IsDriver week.drivers
   pub orders : All (IsOrder (length week.places)) week.orders
+  pub place_names : AreNames week.places
+  pub driver_names : AreNames (map (λ driver. driver.name) week.drivers)
+  pub order_names : AreNames (map (λ order. order.name) week.orders)
+  pub ends : IsDistinct same_ends week.legs

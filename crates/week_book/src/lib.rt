@@ -2,10 +2,25 @@
 //! from 1. Minutes count from Monday 00:00 UTC, money is in cents, loads are in kg.
 #![tactic(auto)]
 
+mod checking;
+mod driven;
 mod errors;
+mod keys;
+mod laws;
+mod names;
+mod numbering;
+mod ranges;
+mod roads;
+mod rolls;
 mod rows;
+#[cfg(test)]
+mod tests;
 mod weeks;
 
+pub use checking::check_week;
+pub use driven::check_did;
 pub use errors::{WeekError, What};
+pub use laws::first_faults;
+pub use roads::leg;
 pub use rows::{Row, Word};
 pub use weeks::{Driver, Leg, Order, Week};

@@ -1,4 +1,8 @@
 // The rows of a text, as they are written.
+ghost use Rattle.std.specs.Prelude.{◌≡◌};
+ghost use Rattle.week_book.specs.Faults.{row_number};
+ghost use Rattle.week_book.specs.Pasts.{is_off_word};
+
 use minute_line::{Monday, Name};
 
 /// The mark word of a `past` or `did` row.
@@ -74,4 +78,35 @@ pub enum Row {
         kg: u64,
         price: u64,
     },
+}
+
+impl Word {
+    /// Whether it is OFF, DAILY or WEEKLY.
+    pub fn is_off(self) -> bool
+        ensures { result ≡ is_off_word self }
+    {
+        match self {
+            Word::Off | Word::Daily | Word::Weekly => true,
+            Word::Drive | Word::Work | Word::Ready => false,
+        }
+    }
+}
+
+impl Row {
+    /// Its number in its text, from 1.
+    pub fn number(&self) -> u32
+        ensures { result ≡ row_number self.now }
+    {
+        match self {
+            Row::Week { row, .. }
+            | Row::Place { row, .. }
+            | Row::Leg { row, .. }
+            | Row::Driver { row, .. }
+            | Row::Rest { row, .. }
+            | Row::Worked { row, .. }
+            | Row::Past { row, .. }
+            | Row::Did { row, .. }
+            | Row::Order { row, .. } => *row,
+        }
+    }
 }

@@ -1,0 +1,9 @@
+pub mod Maps
+pub mod Seen
+pub mod Doubles
+pub mod Faultless
+pub mod Meetings
+pub mod Apart
+pub mod History
+pub mod Checked
+pub mod Firsts

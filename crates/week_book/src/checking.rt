@@ -1,0 +1,150 @@
+// The week of a week text: its faults in their order, then its tables.
+ghost use Rattle.std.specs.Prelude.{◌≡◌, true, ◌≤◌, ◌<◌, ◌^◌, length, count_by, IfOk, OnOk};
+ghost use Rattle.std.specs.List.{list_any};
+ghost use Rattle.minute_line.specs.Answers.{Gives};
+ghost use Rattle.week_book.specs.declared.errors.What.TheVariants.{Places};
+ghost use Rattle.week_book.specs.declared.errors.WeekError.TheVariants.{Memory};
+ghost use Rattle.week_book.specs.Faults.{Passes};
+ghost use Rattle.week_book.specs.Ranges.{keeps_ranges};
+ghost use Rattle.week_book.specs.Texts.{each_row, begins_with_week, are_week_rows};
+ghost use Rattle.week_book.specs.Numbers.{places_of};
+ghost use Rattle.week_book.specs.Checking.{is_of, limit_of, too_many, count_fault, counts_fault, fault_of, week_made, week_of};
+ghost use Rattle.week_book.specs.Pasts.{HasPastRows};
+ghost use Rattle.week_book.specs.Weeks.{IsWeek};
+
+use crate::errors::{WeekError, What};
+use crate::keys::check_doubles;
+use crate::numbering::{check_names, driver_roll, drivers, legs, orders, place_roll};
+use crate::ranges::check_ranges;
+use crate::rows::Row;
+use crate::weeks::Week;
+use minute_line::Many;
+use std::alloc::Global;
+
+impl What {
+    /// The most of it that a week may have.
+    pub fn limit(self) -> usize
+        ensures { result ≡ limit_of self }
+    {
+        match self {
+            What::Places => 64,
+            What::Legs => 1024,
+            What::Drivers => 16,
+            What::Orders => 40,
+        }
+    }
+}
+
+impl Row {
+    /// Whether it is a row of that kind.
+    pub fn is_of(&self, what: What) -> bool
+        ensures { result ≡ is_of what self.now }
+    {
+        match what {
+            What::Places => matches!(self, Row::Place { .. }),
+            What::Legs => matches!(self, Row::Leg { .. }),
+            What::Drivers => matches!(self, Row::Driver { .. }),
+            What::Orders => matches!(self, Row::Order { .. }),
+        }
+    }
+}
+
+fn count(rows: &[Row], what: What) -> usize
+    ensures { result ≡ count_by (is_of what) rows.now }
+{
+    rows.iter().filter(|row| row.is_of(what)).count()
+}
+
+/// Passes a number of a kind that a week may have.
+pub fn check_number(what: What, n: usize) -> Result<(), WeekError>
+    requires { n < 2 ^ 32 }
+    ensures { Passes result (too_many what n) }
+{
+    if n > what.limit() {
+        return Err(WeekError::Count(what, n as u32));
+    }
+    Ok(())
+}
+
+fn check_count(rows: &[Row], what: What) -> Result<(), WeekError>
+    requires { length rows.now ≤ 1048576 }
+    ensures { Passes result (count_fault what rows.now) }
+{
+    check_number(what, count(rows, what))
+}
+
+fn check_counts(rows: &[Row]) -> Result<(), WeekError>
+    requires { length rows.now ≤ 1048576 }
+    ensures { Passes result (counts_fault rows.now) }
+{
+    check_count(rows, What::Places)?;
+    check_count(rows, What::Legs)?;
+    check_count(rows, What::Drivers)?;
+    check_count(rows, What::Orders)
+}
+
+fn has_depot(rows: &[Row]) -> bool
+    ensures { result ≡ list_any (is_of Places) rows.now }
+{
+    rows.iter().any(|row| row.is_of(What::Places))
+}
+
+fn check_rows(alloc: Global, rows: &[Row]) -> Result<(), WeekError>
+    requires { length rows.now ≤ 1048576 }
+    ensures { Passes result (fault_of rows.now) }
+{
+    check_counts(rows)?;
+    if !has_depot(rows) {
+        return Err(WeekError::NoDepot);
+    }
+    check_ranges(alloc, rows)?;
+    check_doubles(alloc, rows)?;
+    let places = place_roll(alloc, rows)?;
+    let drivers = driver_roll(alloc, rows)?;
+    check_names(&places, &drivers, rows)
+}
+
+fn make_week(alloc: Global, rows: &[Row]) -> Result<Week, WeekError>
+    requires few { length (places_of rows.now) ≤ 64 }
+    requires ranges { each_row keeps_ranges rows.now ≡ true }
+    requires begins { begins_with_week rows.now ≡ true }
+    ensures { Gives Memory (λ week. week) result (week_made rows.now rows.now) }
+{
+    let Some(
+        Row::Week {
+            monday,
+            load,
+            night,
+            grid,
+            ..
+        },
+    ) = rows.first()
+    else {
+        unreachable!()
+    };
+    let places = place_roll(alloc, rows)?;
+    Ok(Week {
+        monday: *monday,
+        load: *load as u32,
+        night: *night,
+        grid: *grid as u32,
+        places: places.names(alloc)?,
+        legs: legs(alloc, &places, rows)?,
+        drivers: drivers(alloc, rows)?,
+        orders: orders(alloc, &places, rows)?,
+    })
+}
+
+/// The week of the rows of a week text, in the order of the rows, with places, drivers and orders numbered by their
+/// rows. The first row is the week row. Refusals are tried over all rows in the order of `WeekError`.
+pub fn check_week(alloc: Global, rows: &Many<Row>) -> Result<Week, WeekError>
+    requires few { length rows.now ≤ 1048576 }
+    requires words { are_week_rows rows.now ≡ true }
+    ensures week { Gives Memory (λ week. week) result (week_of rows.now) }
+    ensures checked { IfOk result IsWeek }
+    ensures rows { OnOk result (HasPastRows rows.now) }
+{
+    let rows = rows.as_slice();
+    check_rows(alloc, rows)?;
+    make_week(alloc, rows)
+}

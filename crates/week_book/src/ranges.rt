@@ -1,0 +1,246 @@
+// The first field that lies outside its range.
+ghost use Rattle.std.specs.Prelude.{◌≡◌, false, true, ◌<◌, ◌^◌, ◌∷◌, ◌++◌, length, map, nat_le, IfOk, option_to_list};
+ghost use Rattle.week_book.specs.Names.{is_name};
+ghost use Rattle.week_book.specs.Faults.{row_number, Passes};
+ghost use Rattle.week_book.specs.Ranges.{is_within, is_week_minute, is_close_of, is_grid, is_other_name, is_did_span, did_name, has_begun, fields_in_range, first_outside, range_fault};
+ghost use Rattle.week_book.specs.Checking.{is_of};
+ghost use Rattle.week_book.specs.Texts.{is_checked};
+ghost use Rattle.week_book.specs.declared.errors.What.TheVariants.{Orders};
+
+use crate::errors::WeekError;
+use crate::names::is_name;
+use crate::rolls::Roll;
+use crate::rows::{Row, Word};
+use std::alloc::{AllocError, Global};
+
+fn is_within(first: u64, last: u64, n: u64) -> bool
+    ensures { result ≡ is_within first last n }
+{
+    first <= n && n <= last
+}
+
+fn is_week_minute(minute: i64) -> bool
+    ensures { result ≡ is_week_minute minute }
+{
+    0 <= minute && minute <= 10_079
+}
+
+fn is_close_of(opens: i64, closes: i64) -> bool
+    ensures { result ≡ is_close_of opens closes }
+{
+    is_week_minute(closes) && opens <= closes
+}
+
+fn is_grid(grid: u64) -> bool
+    ensures { result ≡ is_grid grid }
+{
+    grid == 15 || (grid == 30 || grid == 60)
+}
+
+fn is_other_name(from: &[u8], to: &[u8]) -> bool
+    ensures { result ≡ is_other_name from.now to.now }
+{
+    is_name(to) && from != to
+}
+
+fn is_did_span(begun: bool, word: Word, minutes: u64) -> bool
+    ensures { result ≡ is_did_span begun word minutes }
+{
+    minutes <= 10_080 && (1 <= minutes || (word.is_off() && !begun))
+}
+
+/// The first field that is outside its range, of the fields after a row's word.
+fn first_outside(row: u32, fields: &[bool]) -> Option<WeekError>
+    requires { length fields.now < 2 ^ 16 }
+    ensures { result ≡ first_outside row 2 fields.now }
+{
+    let mut field = 2;
+    for is_in in fields {
+        if !*is_in {
+            return Some(WeekError::Range(row, field));
+        }
+        field += 1;
+    }
+    None
+}
+
+fn weeks_outside(row: u32, weeks: &[u64; 16]) -> Option<WeekError>
+    ensures { result ≡ first_outside row 4 (map (λ m. nat_le m 10080) weeks.now) }
+{
+    let mut field = 4;
+    for week in weeks {
+        if *week > 10_080 {
+            return Some(WeekError::Range(row, field));
+        }
+        field += 1;
+    }
+    None
+}
+
+fn order_outside(row: &Row) -> Option<WeekError>
+    ensures { is_of Orders row.now ≡ true → result ≡ first_outside (row_number row.now) 2 (fields_in_range false row.now) }
+{
+    match row {
+        Row::Order {
+            row,
+            name,
+            place,
+            opens,
+            closes,
+            service,
+            kg,
+            price,
+        } => first_outside(
+            *row,
+            &[
+                is_name(name.as_slice()),
+                is_name(place.as_slice()),
+                is_week_minute(*opens),
+                is_close_of(*opens, *closes),
+                is_within(1, 360, *service),
+                *kg <= 100_000,
+                *price <= 100_000_000,
+            ],
+        ),
+        _ => None,
+    }
+}
+
+fn worked_outside(row: u32, driver: &[u8], last: u64, weeks: &[u64; 16]) -> Option<WeekError>
+    ensures { result ≡ first_outside row 2 (is_name driver.now ∷ nat_le last 10080 ∷ map (λ m. nat_le m 10080) weeks.now) }
+{
+    if !is_name(driver) {
+        return Some(WeekError::Range(row, 2));
+    }
+    if last > 10_080 {
+        return Some(WeekError::Range(row, 3));
+    }
+    weeks_outside(row, weeks)
+}
+
+fn history_outside(begun: bool, row: &Row) -> Option<WeekError>
+    ensures { is_checked row.now ≡ true → result ≡ first_outside (row_number row.now) 2 (fields_in_range begun row.now) }
+{
+    match row {
+        Row::Week {
+            row,
+            load,
+            night,
+            grid,
+            ..
+        } => {
+            let load = is_within(1, 240, *load);
+            first_outside(*row, &[true, load, *night <= 1_000_000, is_grid(*grid)])
+        }
+        Row::Rest {
+            row,
+            driver,
+            end,
+            minutes,
+        } => {
+            let minutes = is_within(1440, 1_000_000, *minutes);
+            first_outside(*row, &[is_name(driver.as_slice()), *end <= 0, minutes])
+        }
+        Row::Worked {
+            row,
+            driver,
+            last,
+            weeks,
+        } => worked_outside(*row, driver.as_slice(), *last, weeks),
+        Row::Past {
+            row,
+            driver,
+            minutes,
+            ..
+        } => {
+            let minutes = is_within(1, 2_000_000, *minutes);
+            first_outside(*row, &[is_name(driver.as_slice()), true, minutes])
+        }
+        Row::Did {
+            row,
+            driver,
+            word,
+            minutes,
+        } => {
+            let minutes = is_did_span(begun, *word, *minutes);
+            first_outside(*row, &[is_name(driver.as_slice()), true, minutes])
+        }
+        _ => None,
+    }
+}
+
+fn outside(begun: bool, row: &Row) -> Option<WeekError>
+    ensures { result ≡ first_outside (row_number row.now) 2 (fields_in_range begun row.now) }
+{
+    match row {
+        Row::Place { row, name } => first_outside(*row, &[is_name(name.as_slice())]),
+        Row::Leg {
+            row,
+            from,
+            to,
+            minutes,
+            cents,
+        } => {
+            let (from, to) = (from.as_slice(), to.as_slice());
+            let minutes = is_within(1, 270, *minutes);
+            first_outside(
+                *row,
+                &[
+                    is_name(from),
+                    is_other_name(from, to),
+                    minutes,
+                    *cents <= 1_000_000,
+                ],
+            )
+        }
+        Row::Driver {
+            row,
+            name,
+            capacity,
+            fee,
+        } => {
+            let capacity = is_within(1, 100_000, *capacity);
+            first_outside(
+                *row,
+                &[is_name(name.as_slice()), capacity, *fee <= 10_000_000],
+            )
+        }
+        Row::Order { .. } => order_outside(row),
+        _ => history_outside(begun, row),
+    }
+}
+
+/// Whether it is a `did` row of one of these drivers.
+fn has_begun(names: &Roll, row: &Row) -> bool
+    ensures { result ≡ has_begun names.now row.now }
+{
+    match row {
+        Row::Did { driver, .. } => names.has(driver.as_slice()),
+        _ => false,
+    }
+}
+
+/// The names, and that of a `did` row's driver.
+fn with_did<'a>(names: Roll<'a>, row: &'a Row) -> Result<Roll<'a>, AllocError>
+    ensures { IfOk result (λ more. more ≡ names.entry ++ option_to_list (did_name row.now)) }
+{
+    match row {
+        Row::Did { driver, .. } => names.with(driver.as_slice()),
+        _ => Ok(names),
+    }
+}
+
+/// Passes rows whose fields are in their ranges.
+pub fn check_ranges(alloc: Global, rows: &[Row]) -> Result<(), WeekError>
+    ensures { Passes result (range_fault rows.now) }
+{
+    let mut begun = Roll::new(alloc);
+    for row in rows {
+        match outside(has_begun(&begun, row), row) {
+            Some(fault) => return Err(fault),
+            None => {}
+        }
+        begun = with_did(begun, row)?;
+    }
+    Ok(())
+}
