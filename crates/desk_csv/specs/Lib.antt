@@ -1,0 +1,4 @@
+pub mod DateTests
+pub mod Fields
+pub mod RowKinds
+pub mod Reading
