@@ -1,0 +1,135 @@
+-- More than sixteen idle weeks give what sixteen give.
+use Rattle.std.proofs.Common.{◌≡◌, ℕ, ◌+◌, ◌-◌, ◌*◌, ◌≤◌, ◌<◌, true, false, List, [], ◌∷◌, ◌++◌, refl, fold, arith, suc, zero, sym, ◌∙◌, ap, min, length, replicate, drop, append_assoc, append-nil, length-drop, ◌⊎◌, inl, inr}
+use Rattle.std.proofs.lemmas.Bool.{cases_lt}
+use Rattle.std.proofs.lemmas.List.Sums.{fold-append}
+use Rattle.minute_line.specs.declared.marks.Kind.TheVariants.{Plain}
+use Rattle.minute_line.specs.Histories.{Fields}
+use Rattle.minute_line.specs.Stints.{is_past}
+use Rattle.driver_history.specs.Carrying.{Left, rest, no_line, all_stints, add_off, carry}
+use Rattle.driver_history.specs.Advancing.{left_of, advance_of, idle_of}
+use Rattle.driver_history.proofs.Pasts.{uncut-fold, past-fold, open-fold, lasts-past, cuts-past}
+use Rattle.driver_history.proofs.Joining.{joined-fold, rerun, all-rerun}
+use Rattle.driver_history.proofs.Sixteen.{none_left}
+
+-- the stints, joined
+abbrev pub joined_of : Fields → Left
+joined_of f = fold carry (no_line f.prev_weekly) f.stints
+
+idle-left : (f : Fields) → left_of f [] ≡ add_off (add_off (joined_of f) f.open_off Plain) 10080 Plain
+idle-left f = fold-append carry (no_line f.prev_weekly) f.stints (rest f.open_off Plain ∷ rest 10080 Plain ∷ [])
+
+-- a history after one idle week
+pub record Idled (f g : Fields) : Type 0 where
+  pub past : is_past false g.stints ≡ true
+  pub prev : g.prev_weekly ≡ f.prev_weekly
+  pub stints : g.stints ≡ all_stints (joined_of f)
+  pub open_run : g.open_off ≡ min 20160 (f.open_off + 10080)
+  pub drive : g.prev_drive ≡ 0
+  pub weeks : g.work16 ≡ drop 1 f.work16 ++ 0 ∷ []
+
+pub idled : (f : Fields) → is_past false f.stints ≡ true → Idled f (advance_of f [])
+idled f h =
+    let e = idle-left f in
+    let u = uncut-fold f.stints (no_line f.prev_weekly) false (λ x. x) (cuts-past false f.stints h) in
+    let o : (joined_of f).open_off ≡ 0 = open-fold false f.stints (no_line f.prev_weekly) h (λ x. refl) in
+    let s : (advance_of f []).stints ≡ all_stints (joined_of f) = rw e refl in
+    record {
+      past = rw s (past-fold f.stints (no_line f.prev_weekly) (lasts-past false f.stints h) refl);
+      prev = rw e u.prev;
+      stints = s;
+      open_run = rw e (omega arith);
+      drive = refl;
+      weeks = refl;
+    }
+
+-- stints that were joined stay as they are
+joined_again : (f g : Fields) → is_past false f.stints ≡ true → Idled f g → all_stints (joined_of g) ≡ g.stints
+joined_again f g h i =
+    let j = joined-fold f.prev_weekly f.stints (lasts-past false f.stints h) in
+    let u = uncut-fold f.stints (no_line f.prev_weekly) false (λ x. x) (cuts-past false f.stints h) in
+    let same : joined_of g ≡ fold carry (no_line (joined_of f).prev_weekly) (all_stints (joined_of f)) = rw (i.prev, i.stints, u.prev) refl in
+    rw same (ap all_stints (rerun (joined_of f) j) ∙ all-rerun (joined_of f) j ∙ sym i.stints)
+
+-- a history after so many idle weeks
+pub record After (n : ℕ) (f g : Fields) : Type 0 where
+  pub past : is_past false g.stints ≡ true
+  pub stints : 1 ≤ n → all_stints (joined_of g) ≡ g.stints
+  pub low : min 20160 (10080 * n) ≤ g.open_off
+  pub high : g.open_off ≤ 20160
+  pub drive : 1 ≤ n → g.prev_drive ≡ 0
+
+after : (n : ℕ) (f : Fields) → is_past false f.stints ≡ true → f.open_off ≤ 20160 → After n f (idle_of n f)
+after zero f h o = record { past = h; stints = λ (l : 1 ≤ 0). absurd (omega arith); low = omega arith; high = o; drive = λ (l : 1 ≤ 0). absurd (omega arith) }
+after (suc n) f h o =
+    let a = after n f h o in
+    let i = idled (idle_of n f) a.past in
+    let run = i.open_run in let low = a.low in record {
+      past = i.past;
+      stints = λ l. joined_again (idle_of n f) (advance_of (idle_of n f) []) a.past i;
+      low = omega arith;
+      high = omega arith;
+      drive = λ l. i.drive;
+    }
+
+-- the weeks move on, one 0 each week
+next_week : (n : ℕ) (ws : List ℕ) → n < length ws → drop 1 (drop n ws ++ replicate n 0) ++ 0 ∷ [] ≡ drop (suc n) ws ++ replicate (suc n) 0
+next_week n [] l = absurd (omega arith)
+next_week zero (w ∷ ws) l = rw (append-nil ws) refl
+next_week (suc n) (w ∷ ws) l = moved (drop n ws) (uncons_drop n ws (omega arith))
+  where
+    push_zero : (k : ℕ) → ◌++◌ {A = ℕ} (replicate k 0) (0 ∷ []) ≡ replicate (suc k) 0
+    push_zero zero = refl
+    push_zero (suc k) = ap (λ (xs : List ℕ). 0 ∷ xs) (push_zero k)
+
+    uncons_drop : (k : ℕ) (xs : List ℕ) → k < length xs → (x : ℕ) × (drop k xs ≡ x ∷ drop (suc k) xs)
+    uncons_drop k [] h = absurd (omega arith)
+    uncons_drop zero (x ∷ xs) h = (x, refl)
+    uncons_drop (suc k) (x ∷ xs) h = uncons_drop k xs (omega arith)
+
+    moved : (xs : List ℕ) → (x : ℕ) × (drop n ws ≡ x ∷ drop (suc n) ws) →
+        drop 1 (drop n ws ++ replicate (suc n) 0) ++ 0 ∷ [] ≡ drop (suc n) ws ++ replicate (suc (suc n)) 0
+    moved xs (x, e) = rw e (append_assoc (drop (suc n) ws) (replicate (suc n) 0) (0 ∷ []) ∙ ap (λ (t : List ℕ). drop (suc n) ws ++ t) (push_zero (suc n)))
+
+weeks_to : (n : ℕ) (f : Fields) → length f.work16 ≡ 16 → n ≤ 16 → (idle_of n f).work16 ≡ drop n f.work16 ++ replicate n 0
+weeks_to zero f e l = sym (append-nil f.work16)
+weeks_to (suc n) f e l = ap (λ ws. drop 1 ws ++ 0 ∷ []) (weeks_to n f e (omega arith)) ∙ next_week n f.work16 (omega arith)
+
+-- a week of no work among no other
+all_idle : (k n : ℕ) (f : Fields) → (idle_of n f).work16 ≡ replicate 16 0 → (idle_of (k + n) f).work16 ≡ replicate 16 0
+all_idle zero n f h = let e : 0 + n ≡ n = omega arith in rw e h
+all_idle (suc k) n f h = let e : suc k + n ≡ suc (k + n) = omega arith in rw (e, all_idle k n f h) refl
+
+same_fields : (f g : Fields) → f.prev_weekly ≡ g.prev_weekly → f.stints ≡ g.stints → f.open_off ≡ g.open_off → f.prev_drive ≡ g.prev_drive →
+    f.work16 ≡ g.work16 → f ≡ g
+same_fields f g a b c d e = λ i. record { prev_weekly = a i; stints = b i; open_off = c i; prev_drive = d i; work16 = e i }
+
+-- an idle week after sixteen changes nothing
+settled : (n : ℕ) (f : Fields) → is_past false f.stints ≡ true → f.open_off ≤ 20160 → length f.work16 ≡ 16 → n ≡ 16 →
+    advance_of (idle_of n f) [] ≡ idle_of n f
+settled n f h o e l =
+    let a = after n f h o in
+    let i = idled (idle_of n f) a.past in
+    let run = i.open_run in let low = a.low in let high = a.high in
+    let none : drop n f.work16 ≡ [] = rw l (none_left (drop 16 f.work16) (omega (arith, length-drop {A = ℕ}))) in
+    let weeks : (idle_of n f).work16 ≡ replicate 16 0 = weeks_to n f e (omega arith) ∙ rw (none, l) refl in
+    same_fields (advance_of (idle_of n f) []) (idle_of n f) i.prev (i.stints ∙ a.stints (omega arith)) (omega arith)
+    (i.drive ∙ sym (a.drive (omega arith))) (i.weeks ∙ rw weeks refl)
+
+stays : (k n : ℕ) (f : Fields) → advance_of (idle_of n f) [] ≡ idle_of n f → idle_of (k + n) f ≡ idle_of n f
+stays zero n f h = let e : 0 + n ≡ n = omega arith in rw e refl
+stays (suc k) n f h = let e : suc k + n ≡ suc (k + n) = omega arith in rw e (ap (λ x. advance_of x []) (stays k n f h) ∙ h)
+
+-- sixteen idle weeks stand for any more
+pub idle-most : (weeks n : ℕ) (f : Fields) → is_past false f.stints ≡ true → f.open_off ≤ 20160 → length f.work16 ≡ 16 → n ≡ min weeks 16 →
+    idle_of n f ≡ idle_of weeks f
+idle-most weeks n f h o e m = by_cases (cases_lt 16 weeks)
+  where
+    by_cases : (16 < weeks) ⊎ (weeks ≤ 16) → idle_of n f ≡ idle_of weeks f
+    by_cases (inr l) = let same : n ≡ weeks = omega arith in rw same refl
+    by_cases (inl l) =
+        let full : n ≡ 16 = omega arith in
+        let sum : (weeks - n) + n ≡ weeks = omega arith in
+        sym (stays (weeks - n) n f (settled n f h o e full)) ∙ ap (λ k. idle_of k f) sum
+
+pub idle_more : (i : ℕ) (f : Fields) → advance_of (idle_of i f) [] ≡ idle_of (i + 1) f
+idle_more i f = let k : suc i ≡ i + 1 = omega arith in ap (λ n. idle_of n f) k

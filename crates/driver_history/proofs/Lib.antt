@@ -1,0 +1,16 @@
+pub mod Carry
+pub mod Shapes
+pub mod Watching
+pub mod Bounds
+pub mod Pasts
+pub mod Weeks
+pub mod Sixteen
+pub mod Joining
+pub mod Idling
+pub mod Rows
+pub mod RowBounds
+pub mod Texts
+pub mod Nearby
+pub mod Shifting
+pub mod Following
+pub mod Appending

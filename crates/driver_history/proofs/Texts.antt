@@ -1,0 +1,86 @@
+-- A text with one more row.
+use Rattle.std.proofs.Common.{◌≡◌, ℕ, ◌+◌, ◌≤◌, true, leb, inl, inr, List, [], ◌∷◌, ◌++◌, length, refl, arith, append-nil, length-append, le-leb}
+use Rattle.std.proofs.lemmas.Bool.{cases_Bool}
+use Rattle.std.proofs.lemmas.Bool.Decides.{nat_tests}
+use Rattle.std.specs.Str.{bytes_eq}
+use Rattle.week_book.specs.declared.rows.Row.{Row}
+use Rattle.week_book.specs.declared.rows.Row.TheVariants.{Rest, Worked, Past, Did}
+use Rattle.week_book.specs.declared.rows.Word.{Word}
+use Rattle.week_book.specs.Texts.{each_row}
+use Rattle.week_book.specs.Pasts.{Spell, rests_of, toils_of, did_spells, in_past_range, each_lasts, zero_first, HasPastRows}
+
+rests-append : (name : List ℕ) (xs ys : List Row) → rests_of name (xs ++ ys) ≡ rests_of name xs ++ rests_of name ys
+rests-append name [] ys = refl
+rests-append name (Rest row driver end minutes ∷ xs) ys =
+    elim (cases_Bool (bytes_eq driver name)) [
+      | inl t ↦ rw (t, rests-append name xs ys) refl
+      | inr f ↦ rw (f, rests-append name xs ys) refl
+    ]
+rests-append name (_ ∷ xs) ys = rests-append name xs ys
+
+toils-append : (name : List ℕ) (xs ys : List Row) → toils_of name (xs ++ ys) ≡ toils_of name xs ++ toils_of name ys
+toils-append name [] ys = refl
+toils-append name (Worked row driver last weeks ∷ xs) ys =
+    elim (cases_Bool (bytes_eq driver name)) [
+      | inl t ↦ rw (t, toils-append name xs ys) refl
+      | inr f ↦ rw (f, toils-append name xs ys) refl
+    ]
+toils-append name (_ ∷ xs) ys = toils-append name xs ys
+
+did-append : (name : List ℕ) (xs ys : List Row) → did_spells name (xs ++ ys) ≡ did_spells name xs ++ did_spells name ys
+did-append name [] ys = refl
+did-append name (Did row driver w minutes ∷ xs) ys =
+    elim (cases_Bool (bytes_eq driver name)) [
+      | inl t ↦ rw (t, did-append name xs ys) refl
+      | inr f ↦ rw (f, did-append name xs ys) refl
+    ]
+did-append name (_ ∷ xs) ys = did-append name xs ys
+
+ranges-append : (xs ys : List Row) → each_row in_past_range xs ≡ true → each_row in_past_range ys ≡ true → each_row in_past_range (xs ++ ys) ≡ true
+ranges-append [] ys h g = g
+ranges-append (x ∷ xs) ys h g = grind (arith, ranges-append xs ys)
+
+lasts-append : (xs ys : List Spell) → each_lasts xs ≡ true → each_lasts ys ≡ true → each_lasts (xs ++ ys) ≡ true
+lasts-append [] ys h g = g
+lasts-append (x ∷ xs) ys h g = grind (arith, lasts-append xs ys)
+
+zeros-append : (xs ys : List Spell) → zero_first xs ≡ true → each_lasts ys ≡ true → zero_first (xs ++ ys) ≡ true
+zeros-append [] [] h g = refl
+zeros-append [] (y ∷ ys) h g = grind (arith, nat_tests)
+zeros-append (x ∷ xs) ys h g = grind (arith, lasts-append xs ys)
+
+-- no rest row or worked row among them, and a minute in each did row
+pub record Adds (ys : List Row) : Type 0 where
+  pub ranges : each_row in_past_range ys ≡ true
+  pub rests : (name : List ℕ) → rests_of name ys ≡ []
+  pub toils : (name : List ℕ) → toils_of name ys ≡ []
+  pub lasts : (name : List ℕ) → each_lasts (did_spells name ys) ≡ true
+
+pub text-append : (xs ys : List Row) → HasPastRows xs → length xs + length ys ≤ 1048576 → Adds ys → HasPastRows (xs ++ ys)
+text-append xs ys h few a = record {
+  few = omega (arith, length-append xs ys);
+  ranges = ranges-append xs ys h.ranges a.ranges;
+  rests = λ (name : List ℕ). rw (rests-append name xs ys, a.rests name, append-nil (rests_of name xs)) (h.rests name);
+  toils = λ (name : List ℕ). rw (toils-append name xs ys, a.toils name, append-nil (toils_of name xs)) (h.toils name);
+  zeros = λ (name : List ℕ). rw (did-append name xs ys) (zeros-append (did_spells name xs) (did_spells name ys) (h.zeros name) (a.lasts name));
+}
+
+pub adds-past : (row : ℕ) (driver : List ℕ) (w : Word) (minutes : ℕ) → 1 ≤ minutes → minutes ≤ 2000000 → Adds (Past row driver w minutes ∷ [])
+adds-past row driver w minutes l h =
+    let low : leb 1 minutes ≡ true = le-leb 1 minutes l in
+    let high : leb minutes 2000000 ≡ true = le-leb minutes 2000000 h in
+    record { ranges = rw (low, high) refl; rests = λ (name : List ℕ). refl; toils = λ (name : List ℕ). refl; lasts = λ (name : List ℕ). refl }
+
+pub adds-did : (row : ℕ) (driver : List ℕ) (w : Word) (minutes : ℕ) → 1 ≤ minutes → minutes ≤ 10080 → Adds (Did row driver w minutes ∷ [])
+adds-did row driver w minutes l h =
+    let low : leb 1 minutes ≡ true = le-leb 1 minutes l in
+    let high : leb minutes 10080 ≡ true = le-leb minutes 10080 h in
+    record {
+      ranges = rw high refl;
+      rests = λ (name : List ℕ). refl;
+      toils = λ (name : List ℕ). refl;
+      lasts = λ (name : List ℕ). elim (cases_Bool (bytes_eq driver name)) [
+        | inl t ↦ rw (t, low) refl
+        | inr f ↦ rw f refl
+      ];
+    }

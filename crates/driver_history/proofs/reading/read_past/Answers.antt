@@ -1,0 +1,18 @@
+use Rattle.std.proofs.Common.{sym}
+use Rattle.driver_history.proofs.Rows.{are_past, is_rest, is_toil}
+use Rattle.driver_history.proofs.reading.read_past.Goals as goal
+
+pub history_after-requires-clause-rest : goal.history_after-requires-clause-rest
+history_after-requires-clause-rest c =
+    let e = sym c.in-Some-Some.ensures in
+    is_rest c.args.driver.now c.args.rows.now c.in-Some-Some.rest c.requires.ranges (rw (c.as_slice-rows.ensures, c.as_slice-name.ensures) at e)
+
+pub history_after-requires-clause-worked : goal.history_after-requires-clause-worked
+history_after-requires-clause-worked c =
+    let e = sym c.in-Some-Some.ensures' in
+    is_toil c.args.driver.now c.args.rows.now c.in-Some-Some.worked c.requires.ranges (rw (c.as_slice-rows.ensures, c.as_slice-name.ensures) at e)
+
+pub history_after-requires-clause-spells : goal.history_after-requires-clause-spells
+history_after-requires-clause-spells c =
+    rw (c.deref.ensures.value, c.in_ok-spells.ensures, c.as_slice-rows.ensures, c.as_slice-name.ensures)
+    (are_past c.args.driver.now c.args.rows.now c.requires)

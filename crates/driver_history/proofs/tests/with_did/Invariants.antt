@@ -1,0 +1,5 @@
+use Rattle.week_book.specs.Pasts.{HasPastRows}
+use Rattle.driver_history.proofs.tests.with_did.Given as goal
+
+abbrev pub invariant-loop-word : goal.invariant-loop-word
+invariant-loop-word g l = HasPastRows l.text

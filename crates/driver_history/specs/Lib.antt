@@ -1,0 +1,6 @@
+pub mod Carrying
+pub mod Advancing
+pub mod Keeping
+pub mod Reading
+pub mod Finding
+pub mod Laws

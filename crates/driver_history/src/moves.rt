@@ -1,0 +1,132 @@
+// A history moved on by a judged week, and by idle weeks.
+ghost use Rattle.std.specs.Prelude.{◌≡◌, ◌+◌, ◌≤◌, ◌<◌, ◌^◌, ◌++◌, ◌∷◌, [], drop, None, IfOk};
+ghost use Rattle.minute_line.specs.Minutes.{total_of};
+ghost use Rattle.minute_line.specs.Histories.{fields_of};
+ghost use Rattle.hours_rules.specs.Rules.{fault};
+ghost use Rattle.hours_rules.specs.Verdicts.{past_of, week_of};
+ghost use Rattle.driver_history.specs.Advancing.{drive_total, work_total, left_of, advance_of, idle_of};
+ghost use Rattle.driver_history.specs.Keeping.{seen};
+
+use crate::carrying::Carried;
+use minute_line::{History, Kind, Line, Many, Memory, Stint};
+use std::alloc::Global;
+
+/// The minutes of a week.
+const WEEK_MINUTES: u32 = 10080;
+
+/// The minutes of some stints.
+fn total(stints: &[Stint]) -> u32
+    requires { total_of stints.now < 2 ^ 32 }
+    ensures { result ≡ total_of stints.now }
+{
+    stints.iter().map(|stint| stint.minutes).sum()
+}
+
+/// The Drive minutes of some stints.
+fn drive(stints: &[Stint]) -> u32
+    requires { drive_total stints.now < 2 ^ 32 }
+    ensures { result ≡ drive_total stints.now }
+{
+    stints
+        .iter()
+        .map(|stint| if stint.mark.is_drive() {
+            stint.minutes
+        } else {
+            0
+        })
+        .sum()
+}
+
+/// The working minutes of some stints.
+fn work(stints: &[Stint]) -> u32
+    requires { work_total stints.now < 2 ^ 32 }
+    ensures { result ≡ work_total stints.now }
+{
+    stints
+        .iter()
+        .map(|stint| if stint.mark.is_working() {
+            stint.minutes
+        } else {
+            0
+        })
+        .sum()
+}
+
+/// The sixteen weeks after one more: the oldest falls away.
+fn later(weeks: &[u32; 16], last: u32) -> [u32; 16]
+    ensures { result ≡ drop 1 weeks.now ++ last ∷ [] }
+{
+    let [_, b, c, d, e, f, g, h, i, j, k, l, m, n, o, p] = *weeks;
+    [b, c, d, e, f, g, h, i, j, k, l, m, n, o, p, last]
+}
+
+/// What is left of the line of a history and a week.
+fn left_after(alloc: Global, history: &History, line: &[Stint]) -> Result<Carried, Memory>
+    requires { total_of line.now ≤ 10080 }
+    ensures { IfOk result (λ left. seen left ≡ left_of (fields_of history.now) line.now) }
+{
+    let past = Carried::after(alloc, history.prev_weekly).carry_all(
+        alloc,
+        history.stints.stints.as_slice(),
+    )?;
+    let monday = past.rest(history.open_off, Kind::Plain);
+    let week = monday.carry_all(alloc, line)?;
+    Ok(week.rest(WEEK_MINUTES - total(line), Kind::Plain))
+}
+
+/// The history after a week that was judged lawful: what is left of the old history and the week's line after the last
+/// weekly rest that ended in the week, or all of it where none ended. The trailing Off is the open run, held at 20,160
+/// minutes; on-duty stints of one mark that stand side by side are joined.
+pub fn advance(alloc: Global, history: &History, line: &Line) -> Result<History, Memory>
+    requires total { total_of line.now.stints ≤ 10080 }
+    requires lawful { fault (past_of history.now) (week_of line.now) ≡ None }
+    ensures { IfOk result (λ next. fields_of next ≡ advance_of (fields_of history.now) line.now.stints) }
+{
+    let week = line.stints.as_slice();
+    let left = left_after(alloc, history, week)?;
+    Ok(left.into_history(drive(week), later(&history.work16, work(week)))?)
+}
+
+/// The same history, in memory of its own.
+fn copied(alloc: Global, history: &History) -> Result<History, Memory>
+    ensures { IfOk result (λ copy. fields_of copy ≡ fields_of history.now) }
+{
+    Ok(History {
+        prev_weekly: history.prev_weekly,
+        stints: Line {
+            stints: Many::from_slice(alloc, history.stints.stints.as_slice())?,
+        },
+        open_off: history.open_off,
+        prev_drive: history.prev_drive,
+        work16: history.work16,
+    })
+}
+
+/// The line of a week in which nothing is done.
+fn idle_line(alloc: Global) -> Line
+    ensures { result.stints ≡ [] }
+{
+    Line {
+        stints: Many::new(alloc),
+    }
+}
+
+/// The history after a week in which nothing is done.
+fn idle_week(alloc: Global, history: &History) -> Result<History, Memory>
+    ensures { IfOk result (λ next. fields_of next ≡ advance_of (fields_of history.now) []) }
+{
+    let line = idle_line(alloc);
+    advance(alloc, history, &line)
+}
+
+/// The history after so many weeks in which nothing is done. More than sixteen give what sixteen give, so the work
+/// does not grow past them.
+pub fn idle(alloc: Global, history: &History, weeks: u32) -> Result<History, Memory>
+    ensures { IfOk result (λ next. fields_of next ≡ idle_of weeks (fields_of history.now)) }
+{
+    let mut now = copied(alloc, history)?;
+    for _ in 0..weeks.min(16) {
+        now = idle_week(alloc, &now)?;
+    }
+    Ok(now)
+}
