@@ -1,0 +1,20 @@
+-- Short lists without repeats, for the week of one driver that the tests plan.
+use Rattle.std.proofs.Common.{◌≡◌, ◌<◌, ℕ, zero, suc, Bool, false, List, [], ◌∷◌, length, All, arith, rules}
+use Rattle.std.specs.List.{IsDistinct}
+
+pub distinct-one : {K : Type 0} (e : K → K → Bool) (x : K) → IsDistinct e (x ∷ [])
+unfolding IsDistinct
+distinct-one e x = search rules
+
+pub distinct-two : {K : Type 0} (e : K → K → Bool) (x y : K) → e x y ≡ false → IsDistinct e (x ∷ y ∷ [])
+unfolding IsDistinct
+distinct-two e x y h = search rules
+
+pub all-one : {X : Type 0} (P : X → Type 0) (x : X) → P x → All P (x ∷ [])
+all-one P x p zero d lt = p
+all-one P x p (suc k) d lt = absurd (omega (arith, lt))
+
+pub all-two : {X : Type 0} (P : X → Type 0) (x y : X) → P x → P y → All P (x ∷ y ∷ [])
+all-two P x y p q zero d lt = p
+all-two P x y p q (suc zero) d lt = q
+all-two P x y p q (suc (suc k)) d lt = absurd (omega (arith, lt))

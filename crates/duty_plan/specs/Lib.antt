@@ -1,0 +1,16 @@
+pub mod Acts
+pub mod Fronts
+pub mod Duties
+pub mod Verdicts
+pub mod Stints
+pub mod Sums
+pub mod Walks
+pub mod Laws
+pub mod Values
+pub mod Labels
+pub mod LabelLists
+pub mod Rounds
+pub mod Nodes
+pub mod Branching
+pub mod Trees
+pub mod LabelLaws

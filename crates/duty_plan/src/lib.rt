@@ -1,0 +1,40 @@
+//! Duties and plans: what is lawful, and what it costs; and what a search for a cheap plan must show. Steps, drivers, places
+//! and orders count from 0, the nodes of a tree from 1, and place 0 is the depot. Times are whole minutes, a week minute
+//! counts from Monday 00:00 UTC, money is in cents, loads are in kg.
+#![tactic(auto)]
+
+mod checks;
+mod deciding;
+mod duties;
+mod faults;
+mod labels;
+mod laws;
+mod lines;
+mod nodes;
+mod office;
+mod orders;
+mod outcomes;
+mod planning;
+#[cfg(test)]
+mod planning_tests;
+mod plans;
+mod pricing;
+#[cfg(test)]
+mod tests;
+mod walks;
+
+pub use checks::{check_duty, check_plan};
+pub use deciding::{Pair, Pairs};
+pub use duties::{Act, Duty, Step};
+pub use faults::{DutyFault, PlanFault};
+pub use labels::Label;
+pub use laws::{
+    each_order_once, list_alone, never_overloaded, no_repeat, one_label, rest_is_free, served_bits,
+    stints_are_minutes, test_bits,
+};
+pub use lines::line_of;
+pub use nodes::{Decision, Node, NodeState};
+pub use outcomes::{Limits, Outcome, State};
+pub use planning::{Planner, Pricer};
+pub use plans::{Case, Plan};
+pub use pricing::{Priced, Prices};

@@ -1,0 +1,48 @@
+// Who prices the drivers of a case, and who plans a week.
+ghost use Rattle.std.specs.Prelude.{◌≡◌, ℕ, ◌≤◌, IfOk};
+ghost use Rattle.duty_plan.specs.Duties.{IsCase};
+ghost use Rattle.duty_plan.specs.Values.{IsPairs, IsPrices};
+ghost use Rattle.duty_plan.specs.Rounds.{IsRound};
+ghost use Rattle.duty_plan.specs.Trees.{IsLimits, IsRight};
+
+use crate::{Case, Limits, Outcome, Pairs, Priced, Prices};
+use minute_line::{Many, Memory};
+use std::alloc::Global;
+use std::thread::Threads;
+
+/// Prices the drivers of a case, each once in a round, at pairs and prices.
+pub trait Pricer {
+    /// The number of its chunks of 1,024 labels, which no call changes. It licenses the answer Spent.
+    ghost chunks: { Self → ℕ };
+
+    /// One answer for each driver, the first driver's first: the least value with a lawful duty inside the pairs that has
+    /// it, no duty where none is inside, or Spent where the chunks are fewer than the drivers or label lists fill them.
+    fn round<R: Threads + Sync>(
+        &mut self,
+        rt: &R,
+        alloc: Global,
+        case: &Case,
+        pairs: &Pairs,
+        prices: &Prices,
+    ) -> Result<Many<Priced>, Memory>
+        requires case { IsCase case.now }
+        requires pairs { IsPairs case.now.week pairs.now }
+        requires prices { IsPrices case.now.week prices.now }
+        ensures round { IfOk result (λ answers. IsRound (chunks self.old) case.now pairs.now prices.now answers) }
+        ensures chunks { chunks self.new ≡ chunks self.old };
+}
+
+/// Plans the week of a case.
+pub trait Planner {
+    /// A lawful plan at its cost, a bound that no lawful plan beats, and a tree within the limits that shows it.
+    fn solve<R: Threads + Sync>(
+        &mut self,
+        rt: &R,
+        alloc: Global,
+        case: &Case,
+        limits: &Limits,
+    ) -> Result<Outcome, Memory>
+        requires case { IsCase case.now }
+        requires limits { IsLimits limits.now }
+        ensures right { IfOk result (λ outcome. IsRight case.now limits.now outcome) };
+}

@@ -1,0 +1,352 @@
+// A week of one driver, by hand. Costs, faults and stints are worked out by hand from the rules: a leg is 60 minutes and
+// 3,000 cents, the fee 2,000, a night 3,000; the order at P opens at 480 and closes at 720.
+ghost use Rattle.std.specs.Prelude.{◌≡◌, ◌<◌, ◌∷◌, [], All, IfOk, length, map};
+ghost use Rattle.std.specs.List.{IsDistinct};
+ghost use Rattle.week_book.specs.Weeks.{AreNames, IsLeg, IsDriver, IsOrder, same_ends};
+ghost use Rattle.duty_plan.specs.Duties.{IsCase};
+
+use super::*;
+use hours_rules::{Broken, Rule, Stay};
+use minute_line::{History, Kind, Line, Many, Mark, Memory, Monday, Name, Stint, read_monday};
+use std::alloc::Global;
+use week_book::{Driver, Leg, Order, Week};
+
+/// The road between HUB and P, either way.
+fn leg(from: u32, to: u32) -> Leg
+    ensures { result ≡ record { from = from; to = to; minutes = 60; cents = 3000 } }
+{
+    Leg {
+        from,
+        to,
+        minutes: 60,
+        cents: 3000,
+    }
+}
+
+/// The depot HUB and the place P.
+fn places(alloc: Global) -> Result<Many<Name>, Memory>
+    ensures { IfOk result (λ places. (length places ≡ 2) × AreNames places) }
+{
+    let mut places = Many::new(alloc);
+    places.push(Many::from_slice(alloc, b"HUB")?)?;
+    places.push(Many::from_slice(alloc, b"P")?)?;
+    Ok(places)
+}
+
+/// The legs there and back.
+fn legs(alloc: Global) -> Result<Many<Leg>, Memory>
+    ensures { IfOk result (λ legs. (length legs ≡ 2) × All (IsLeg 2) legs × IsDistinct same_ends legs) }
+{
+    let mut legs = Many::new(alloc);
+    legs.push(leg(0, 1))?;
+    legs.push(leg(1, 0))?;
+    Ok(legs)
+}
+
+/// One driver with a lorry of 24,000 kg.
+fn drivers(alloc: Global) -> Result<Many<Driver>, Memory>
+    ensures { IfOk result (λ drivers. (length drivers ≡ 1) × All IsDriver drivers
+        × AreNames (map (λ driver. driver.name) drivers)) }
+{
+    let mut drivers = Many::new(alloc);
+    drivers.push(Driver {
+        name: Many::from_slice(alloc, b"D1")?,
+        capacity: 24_000,
+        fee: 2000,
+    })?;
+    Ok(drivers)
+}
+
+/// One order of 12,000 kg at P.
+fn orders(alloc: Global) -> Result<Many<Order>, Memory>
+    ensures { IfOk result (λ orders. (length orders ≡ 1) × All (IsOrder 2) orders
+        × AreNames (map (λ order. order.name) orders)) }
+{
+    let mut orders = Many::new(alloc);
+    orders.push(Order {
+        name: Many::from_slice(alloc, b"A")?,
+        place: 1,
+        opens: 480,
+        closes: 720,
+        service: 30,
+        kg: 12_000,
+        price: 9000,
+    })?;
+    Ok(orders)
+}
+
+/// The case: a history that ends in an open off run of two days.
+fn case(alloc: Global, monday: Monday) -> Result<Case, Memory>
+    ensures { IfOk result (λ case. IsCase case × (length case.week.drivers ≡ 1) × (length case.week.orders ≡ 1)) }
+{
+    let mut past = Many::new(alloc);
+    past.push(History {
+        prev_weekly: 2700,
+        stints: Line {
+            stints: Many::new(alloc),
+        },
+        open_off: 2880,
+        prev_drive: 0,
+        work16: [0; 16],
+    })?;
+    let week = Week {
+        monday,
+        load: 15,
+        night: 3000,
+        grid: 15,
+        places: places(alloc)?,
+        legs: legs(alloc)?,
+        drivers: drivers(alloc)?,
+        orders: orders(alloc)?,
+    };
+    Ok(Case { week, past })
+}
+
+fn stay(ready: u32, off: u32, kind: Kind) -> Stay {
+    Stay { ready, off, kind }
+}
+
+fn step(stay: Stay, act: Act) -> Step {
+    Step { stay, act }
+}
+
+/// The duty of those steps.
+fn duty(alloc: Global, steps: &[Step]) -> Result<Duty, Memory>
+    ensures { IfOk result (λ duty. duty.steps ≡ steps.now) }
+{
+    Ok(Duty {
+        steps: Many::from_slice(alloc, steps)?,
+    })
+}
+
+#[test]
+fn each_fault_has_a_duty_one_change_away(rt: HostRuntime) {
+    let monday = read_monday("2026-03-02").expect(&rt, "a Monday");
+    let case = case(rt.alloc(), monday).expect(&rt, "memory");
+    let none = stay(0, 0, Kind::Plain);
+    let rest = step(stay(0, 405, Kind::Weekly), Act::Load);
+    let out = step(none, Act::Leg(1));
+    let serve = step(none, Act::Serve(0));
+    let home = step(none, Act::Leg(0));
+    let rows: [(&str, &[Step], Result<u64, DutyFault>); 15] = [
+        ("the week Off", &[], Ok(0)),
+        ("a trip", &[rest, out, serve, home], Ok(8000)),
+        (
+            "two trips",
+            &[rest, out, home, step(none, Act::Load), out, serve, home],
+            Ok(14_000),
+        ),
+        (
+            "a night at P",
+            &[
+                rest,
+                out,
+                serve,
+                step(stay(0, 660, Kind::Daily), Act::Leg(0)),
+            ],
+            Ok(11_000),
+        ),
+        (
+            "the last minutes of the week",
+            &[
+                step(stay(0, 7200, Kind::Weekly), Act::Load),
+                step(stay(0, 2745, Kind::Weekly), Act::Leg(1)),
+                home,
+            ],
+            Ok(8000),
+        ),
+        (
+            "no such place",
+            &[rest, step(none, Act::Leg(2)), serve, home],
+            Err(DutyFault::Road(1)),
+        ),
+        (
+            "a break of 16",
+            &[
+                rest,
+                step(stay(0, 16, Kind::Plain), Act::Leg(1)),
+                serve,
+                home,
+            ],
+            Err(DutyFault::Stay(1)),
+        ),
+        (
+            "a weekly rest at P",
+            &[rest, out, step(stay(0, 2700, Kind::Weekly), Act::Leg(0))],
+            Err(DutyFault::Away(2)),
+        ),
+        (
+            "a load at 406",
+            &[
+                step(stay(0, 406, Kind::Weekly), Act::Load),
+                out,
+                serve,
+                home,
+            ],
+            Err(DutyFault::Grid(0)),
+        ),
+        (
+            "a load at 10,080",
+            &[step(stay(0, 10_080, Kind::Weekly), Act::Load)],
+            Err(DutyFault::Late(0)),
+        ),
+        (
+            "a service at 721",
+            &[
+                rest,
+                out,
+                step(stay(241, 0, Kind::Plain), Act::Serve(0)),
+                home,
+            ],
+            Err(DutyFault::Window(2)),
+        ),
+        (
+            "no load",
+            &[step(stay(0, 420, Kind::Weekly), Act::Leg(1)), serve, home],
+            Err(DutyFault::Load(1)),
+        ),
+        (
+            "served again",
+            &[rest, out, serve, serve, home],
+            Err(DutyFault::Twice(3)),
+        ),
+        ("not home", &[rest, out, serve], Err(DutyFault::NotHome)),
+        (
+            "six legs without a break",
+            &[rest, out, home, out, home, out, home],
+            Err(DutyFault::Rule(Broken {
+                rule: Rule::H1,
+                minute: 690,
+            })),
+        ),
+    ];
+    for (story, steps, expected) in rows {
+        let duty = duty(rt.alloc(), steps).expect(&rt, "memory");
+        let found = check_duty(&case, 0, &duty);
+        assert!(rt; found == expected, "{story}: {found:?}");
+    }
+}
+
+/// The line of the duty, where it is lawful.
+fn lawful_line(alloc: Global, case: &Case, duty: &Duty) -> Result<Option<Line>, Memory>
+    requires case { IsCase case.now }
+    requires driver { 0 < length case.now.week.drivers }
+{
+    if check_duty(case, 0, duty).is_err() {
+        return Ok(None);
+    }
+    Ok(Some(line_of(alloc, case, 0, duty)?))
+}
+
+#[test]
+fn a_trip_has_five_stints(rt: HostRuntime) {
+    let monday = read_monday("2026-03-02").expect(&rt, "a Monday");
+    let case = case(rt.alloc(), monday).expect(&rt, "memory");
+    let none = stay(0, 0, Kind::Plain);
+    let steps = [
+        step(stay(0, 405, Kind::Weekly), Act::Load),
+        step(none, Act::Leg(1)),
+        step(none, Act::Serve(0)),
+        step(none, Act::Leg(0)),
+    ];
+    let duty = duty(rt.alloc(), &steps).expect(&rt, "memory");
+    let line = lawful_line(rt.alloc(), &case, &duty)
+        .expect(&rt, "memory")
+        .expect(&rt, "lawful");
+    let rows = [
+        (Mark::Off, 405, Kind::Weekly),
+        (Mark::Work, 15, Kind::Plain),
+        (Mark::Drive, 60, Kind::Plain),
+        (Mark::Work, 30, Kind::Plain),
+        (Mark::Drive, 60, Kind::Plain),
+    ];
+    assert!(rt; line.stints.len() == rows.len(), "five stints");
+    for (place, (mark, minutes, kind)) in rows.iter().enumerate() {
+        let stint = Stint {
+            mark: *mark,
+            minutes: *minutes,
+            kind: *kind,
+        };
+        assert!(rt; line.stints.get(place) == Some(&stint), "stint {place}");
+    }
+}
+
+/// So many duties: the first has those steps, the others none.
+fn duties_of(alloc: Global, steps: &[Step], count: u32) -> Result<Many<Duty>, Memory> {
+    let mut duties = Many::new(alloc);
+    for number in 0..count {
+        let first = if number == 0 { steps } else { &[] };
+        duties.push(duty(alloc, first)?)?;
+    }
+    Ok(duties)
+}
+
+#[test]
+fn each_plan_has_its_fault(rt: HostRuntime) {
+    let monday = read_monday("2026-03-02").expect(&rt, "a Monday");
+    let case = case(rt.alloc(), monday).expect(&rt, "memory");
+    let none = stay(0, 0, Kind::Plain);
+    let rest = step(stay(0, 405, Kind::Weekly), Act::Load);
+    let out = step(none, Act::Leg(1));
+    let serve = step(none, Act::Serve(0));
+    let home = step(none, Act::Leg(0));
+    let rows: [(&str, &[Step], u32, Result<u64, PlanFault>); 5] = [
+        ("carried", &[rest, out, serve, home], 1, Ok(8000)),
+        ("no duty", &[], 0, Err(PlanFault::Duties(0))),
+        (
+            "two duties",
+            &[rest, out, serve, home],
+            2,
+            Err(PlanFault::Duties(2)),
+        ),
+        (
+            "not home",
+            &[rest, out],
+            1,
+            Err(PlanFault::Duty(0, DutyFault::NotHome)),
+        ),
+        ("lost", &[], 1, Err(PlanFault::Lost(0))),
+    ];
+    for (story, steps, count, expected) in rows {
+        let plan = Plan {
+            duties: duties_of(rt.alloc(), steps, count).expect(&rt, "memory"),
+            out: Many::new(rt.alloc()),
+        };
+        assert!(rt; plan.duties.len() < 9, "few duties");
+        let found = check_plan(&case, &plan);
+        assert!(rt; found == expected, "{story}: {found:?}");
+    }
+}
+
+/// The order, given away.
+fn given_away(alloc: Global) -> Result<Many<u32>, Memory>
+    ensures { IfOk result (λ out. out ≡ 0 ∷ []) }
+{
+    let mut out = Many::new(alloc);
+    out.push(0)?;
+    Ok(out)
+}
+
+// By hand: a carried order that is given away too is in two places; given away alone it costs its price, 9,000.
+#[test]
+fn an_order_is_in_one_place(rt: HostRuntime) {
+    let monday = read_monday("2026-03-02").expect(&rt, "a Monday");
+    let case = case(rt.alloc(), monday).expect(&rt, "memory");
+    let rest = step(stay(0, 405, Kind::Weekly), Act::Load);
+    let out = step(stay(0, 0, Kind::Plain), Act::Leg(1));
+    let serve = step(stay(0, 0, Kind::Plain), Act::Serve(0));
+    let home = step(stay(0, 0, Kind::Plain), Act::Leg(0));
+    let rows: [(&[Step], Result<u64, PlanFault>); 2] = [
+        (&[rest, out, serve, home], Err(PlanFault::Twice(0))),
+        (&[], Ok(9000)),
+    ];
+    for (steps, expected) in rows {
+        let plan = Plan {
+            duties: duties_of(rt.alloc(), steps, 1).expect(&rt, "memory"),
+            out: given_away(rt.alloc()).expect(&rt, "memory"),
+        };
+        assert!(rt; plan.duties.len() < 9, "few duties");
+        let found = check_plan(&case, &plan);
+        assert!(rt; found == expected, "{found:?}");
+    }
+}
