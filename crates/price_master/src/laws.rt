@@ -1,0 +1,23 @@
+// Laws on the Lagrangian value: each is the contract of a function that does nothing.
+ghost use Rattle.price_master.specs.Laws.{CostsAlone, IsBelowPlans, IsExactWhenDecided, NeverFalls};
+
+/// The Lagrangian value is at most the cost of every lawful plan inside the pairs.
+pub fn below_plans()
+    ensures { IsBelowPlans }
+{}
+
+/// At decided pairs that force no order for two drivers, the plan of least duties is lawful and costs the Lagrangian
+/// value.
+pub fn is_exact()
+    ensures { IsExactWhenDecided }
+{}
+
+/// At the same prices the Lagrangian value never falls from a node to its child.
+pub fn never_falls()
+    ensures { NeverFalls }
+{}
+
+/// A plan of one duty costs that duty and what subcontractors take for the orders that it does not serve.
+pub fn costs_alone()
+    ensures { CostsAlone }
+{}
