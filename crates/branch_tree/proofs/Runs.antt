@@ -1,0 +1,25 @@
+-- Runs towards a smaller cost.
+use Rattle.std.proofs.Common.{◌≡◌, ◌⊎◌, inl, inr, ℕ, ◌≤◌, List, length, arith}
+use Rattle.duty_plan.specs.declared.plans.Case.{Case}
+use Rattle.duty_plan.specs.declared.deciding.Pairs.{Pairs}
+use Rattle.duty_plan.specs.declared.pricing.Prices.{Prices}
+use Rattle.duty_plan.specs.Values.{IsDecided}
+use Rattle.duty_plan.specs.Rounds.{Round, IsRun}
+
+-- only the end of a run speaks of the cost
+pub keeps_runs : (m : ℕ) (case : Case) (most : ℕ) (pairs : Pairs) (cost less first bound : ℕ) (before kept : Prices) (rounds : List Round) →
+    less ≤ cost → IsRun m case most pairs cost first bound before kept rounds → IsRun m case most pairs less first bound before kept rounds
+keeps_runs m case most pairs cost less first bound before kept rounds l r = record {
+  some = r.some;
+  begins = r.begins;
+  moves = r.moves;
+  each = r.each;
+  whole = r.whole;
+  ends = λ round h w. lower (r.ends round h w);
+  best = r.best;
+}
+  where
+    lower : (length rounds ≡ most) ⊎ (IsDecided case.week pairs ⊎ (cost ≤ bound)) → (length rounds ≡ most) ⊎ (IsDecided case.week pairs ⊎ (less ≤ bound))
+    lower (inl g) = inl g
+    lower (inr (inl g)) = inr (inl g)
+    lower (inr (inr g)) = inr (inr (omega arith))
