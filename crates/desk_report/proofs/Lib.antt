@@ -1,0 +1,2 @@
+pub mod PlanSums
+pub mod ReportLines
