@@ -1,0 +1,6 @@
+pub mod Stops
+pub mod Refusing
+pub mod Lines
+pub mod Planning
+pub mod Books
+pub mod Checking

@@ -1,0 +1,134 @@
+// The week of a week text, with its drivers' histories.
+ghost use Rattle.std.specs.Prelude.{◌≡◌, ◌≤◌, length, map, option_map, IfOk, OnOk, true};
+ghost use Rattle.minute_line.specs.Histories.{fields_of};
+ghost use Rattle.week_book.specs.Pasts.{HasPastRows};
+ghost use Rattle.week_book.specs.Weeks.{IsWeek};
+ghost use Rattle.desk_core.specs.Refusing.{Meets, rows_said};
+ghost use Rattle.desk_core.specs.Planning.{past_said, pasts_said, all_said, nobody, with_driver, case_said, undriven, plan_said};
+ghost use Rattle.desk_core.specs.Books.{gathered, book, Reports};
+
+use crate::refusals::{Refusal, Stop, stop_past};
+use desk_csv::{Form, read_rows};
+use desk_report::report_out;
+use driver_history::read_past;
+use minute_line::{Bytes, History, Many, Memory, Name};
+use std::alloc::Global;
+use week_book::{Driver, Row, Week, check_week};
+
+/// A week, and the history of each of its drivers, in their order.
+#[derive(Drop)]
+pub struct Accepted {
+    pub week: Week,
+    pub past: Many<History>,
+}
+
+/// The history that a driver's rows make, or none where there are no such rows.
+pub(crate) fn past_in(alloc: Global, rows: &Many<Row>, name: &Name) -> Result<Option<History>, Stop>
+    requires { HasPastRows rows.now }
+    ensures { Meets (λ past. option_map fields_of past) result (past_said rows.now name.now) }
+{
+    match read_past(alloc, rows, name) {
+        Ok(past) => Ok(past),
+        Err(error) => Err(stop_past(Many::from_slice(alloc, name.as_slice())?, error)),
+    }
+}
+
+/// The histories of the drivers so far, and the first driver who has none.
+#[derive(Drop)]
+pub(crate) struct Pasts {
+    pub past: Many<History>,
+    pub missing: Option<Name>,
+}
+
+/// Adds a driver, with a history or without.
+fn add_driver(
+    alloc: Global,
+    pasts: &mut Pasts,
+    name: &Name,
+    past: Option<History>,
+) -> Result<(), Memory>
+    ensures { OnOk result (gathered pasts.new ≡ with_driver (gathered pasts.old) name.now (option_map fields_of past)) }
+{
+    match past {
+        Some(past) => pasts.past.push(past),
+        None => {
+            if pasts.missing.is_none() {
+                pasts.missing = Some(Many::from_slice(alloc, name.as_slice())?);
+            }
+            Ok(())
+        }
+    }
+}
+
+/// The histories that the rows make for the drivers.
+fn pasts_in(alloc: Global, rows: &Many<Row>, drivers: &[Driver]) -> Result<Pasts, Stop>
+    requires { HasPastRows rows.now }
+    ensures { Meets gathered result (pasts_said rows.now nobody drivers.now) }
+{
+    let mut pasts = Pasts {
+        past: Many::new(alloc),
+        missing: None,
+    };
+    for driver in drivers {
+        let past = past_in(alloc, rows, &driver.name)?;
+        add_driver(alloc, &mut pasts, &driver.name, past)?;
+    }
+    Ok(pasts)
+}
+
+/// The histories, where each driver has one.
+fn all_in(pasts: Pasts) -> Result<Many<History>, Stop>
+    ensures { Meets (λ past. map fields_of past) result (all_said (gathered pasts)) }
+{
+    let Pasts { past, missing } = pasts;
+    match missing {
+        Some(name) => Err(Stop::Refused(Refusal::NoHistory(name))),
+        None => Ok(past),
+    }
+}
+
+/// The week of a week text, with a history for each of its drivers.
+pub fn read_case(alloc: Global, text: &Bytes) -> Result<Accepted, Stop>
+    requires { length text.now ≤ 1048576 }
+    ensures case { Meets book result (case_said text.now) }
+    ensures week { IfOk result (λ accepted. IsWeek accepted.week) }
+{
+    let rows = read_rows(alloc, text, Form::Plan)?;
+    let week = check_week(alloc, &rows)?;
+    let pasts = pasts_in(alloc, &rows, week.drivers.as_slice())?;
+    let past = all_in(pasts)?;
+    Ok(Accepted { week, past })
+}
+
+/// The accepted week, where it has no drivers.
+fn undriven_week(accepted: Accepted) -> Result<Week, Stop>
+    ensures week { Meets (λ week. week) result (undriven accepted.week) }
+    ensures same { IfOk result (λ week. week ≡ accepted.week) }
+{
+    let Accepted { week, past } = accepted;
+    let _ = past;
+    if week.drivers.is_empty() {
+        Ok(week)
+    } else {
+        Err(Stop::Refused(Refusal::Drivers))
+    }
+}
+
+/// The week of a week text that has no drivers.
+fn planned_week(alloc: Global, text: &Bytes) -> Result<Week, Stop>
+    requires { length text.now ≤ 1048576 }
+    ensures week { Meets (λ week. week) result (plan_said text.now) }
+    ensures checked { IfOk result IsWeek }
+{
+    let accepted = read_case(alloc, text)?;
+    undriven_week(accepted)
+}
+
+/// The report of a week text. The week has no drivers yet: one with drivers is refused, after all other refusals.
+pub fn plan_text(alloc: Global, text: &Bytes) -> Result<Bytes, Stop>
+    requires { length text.now ≤ 1048576 }
+    ensures { Reports result (plan_said text.now) }
+{
+    let week = planned_week(alloc, text)?;
+    Ok(report_out(alloc, &week)?)
+}
