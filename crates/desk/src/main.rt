@@ -1,0 +1,40 @@
+//! The dispatch desk on the command line: reads a text on standard input, writes its answer on standard output, and ends
+//! with a status. 0: done. 2: the words are no command. 3 and 4: the text is refused. 5: the input failed. 6: the output
+//! failed. 8: want of memory.
+#![tactic(auto)]
+
+mod asks;
+mod running;
+#[cfg(test)]
+mod tests;
+
+use desk_io::{StdSink, StdSource};
+pub use running::run_desk;
+use std::env;
+use std::process::ExitCode;
+
+/// The words after the program's name; none where the system does not give them as text.
+fn words(rt: &HostRuntime) -> Vec<String> {
+    let mut words = Vec::new(rt.alloc());
+    if let Ok(given) = env::args(rt) {
+        for word in given.skip(1) {
+            if words.push(word).is_err() {
+                return Vec::new(rt.alloc());
+            }
+        }
+    }
+    words
+}
+
+fn main(rt: HostRuntime) -> ExitCode {
+    let words = words(&rt);
+    let mut source = StdSource {
+        inner: rt.stdin(),
+        faults: 0,
+    };
+    let mut sink = StdSink {
+        inner: rt.stdout(),
+        faults: 0,
+    };
+    ExitCode::from(run_desk(&rt, rt.alloc(), &words, &mut source, &mut sink))
+}

@@ -1,0 +1,123 @@
+// One run: words, read, text, sink, in this order.
+ghost use Rattle.std.specs.Prelude.{◌≡◌, ◌≤◌, length, map, Some, None};
+ghost use Rattle.std.specs.String.{string_bytes};
+ghost use Rattle.desk.specs.Asking.{asked_by};
+ghost use Rattle.desk.specs.Saying.{Said, Answers, status_of, refused};
+ghost use Rattle.desk.specs.Running.{Tells, TellsOrWants, TellsText, Runs, IsPlanned, text_limit};
+ghost use Rattle.desk_io.specs.Device.{Rose};
+
+use crate::asks::{Ask, read_words};
+use desk_core::{Refusal, Stop, check_text, plan_text, refusal_line};
+use desk_io::{ReadError, Sink, SinkFault, Source, read_all, write_all};
+use minute_line::{Bytes, Memory};
+use std::alloc::Global;
+use std::thread::Threads;
+
+/// The most bytes of a text.
+const TEXT_LIMIT: usize = 1_048_576;
+
+/// The line for words that are no command.
+const USAGE: &[u8] = b"usage: desk plan|check|publish|show|export|make|serve [--name value]\n";
+
+/// The line for a source that failed.
+const READ_FAULT: &[u8] = b"refused read\n";
+
+/// The status of want of memory, with which nothing is written.
+const WANT_OF_MEMORY: u8 = 8;
+
+/// The status that goes with a text, once the sink took it; 6 where the sink failed.
+fn tell<K: Sink>(sink: &mut K, text: &[u8], status: u8) -> u8
+    ensures { Tells (record { status = status; text = text.now }) (K.held sink.old) (K.held sink.new) (K.faults sink.old) (K.faults sink.new) result }
+{
+    match write_all(sink, text) {
+        Ok(()) => status,
+        Err(SinkFault) => 6,
+    }
+}
+
+/// The status of a refusal: 4 where the text is well and a history is missing, else 3.
+fn status_of(refusal: &Refusal) -> u8
+    ensures { result ≡ status_of refusal.now }
+{
+    match refusal {
+        Refusal::NoHistory(_) => 4,
+        Refusal::Long
+        | Refusal::Csv(_)
+        | Refusal::Week(_)
+        | Refusal::Past(_, _)
+        | Refusal::Line(_, _)
+        | Refusal::Drivers => 3,
+    }
+}
+
+/// Tells a refusal by its line and its status.
+fn tell_refusal<K: Sink>(alloc: Global, sink: &mut K, refusal: &Refusal) -> u8
+    ensures { TellsOrWants (refused refusal.now) (K.held sink.old) (K.held sink.new) (K.faults sink.old) (K.faults sink.new) result }
+{
+    match refusal_line(alloc, refusal) {
+        Ok(line) => tell(sink, line.as_slice(), status_of(refusal)),
+        Err(Memory) => WANT_OF_MEMORY,
+    }
+}
+
+/// The desk's answer to a text: a report or the verdicts, or its refusal.
+fn answer(alloc: Global, ask: Ask, text: &Bytes) -> Result<Bytes, Stop>
+    requires { length text.now ≤ text_limit }
+    ensures { Answers ask text.now result }
+{
+    match ask {
+        Ask::Plan => plan_text(alloc, text),
+        Ask::Check => check_text(alloc, text),
+    }
+}
+
+/// Tells the answer to a text.
+fn tell_answer<K: Sink>(alloc: Global, ask: Ask, text: &Bytes, sink: &mut K) -> u8
+    requires { length text.now ≤ text_limit }
+    ensures { TellsText ask text.now (K.held sink.old) (K.held sink.new) (K.faults sink.old) (K.faults sink.new) result }
+{
+    match answer(alloc, ask, text) {
+        Ok(reply) => tell(sink, reply.as_slice(), 0),
+        Err(Stop::Refused(refusal)) => tell_refusal(alloc, sink, &refusal),
+        Err(Stop::Memory) => WANT_OF_MEMORY,
+    }
+}
+
+/// One run: words, read, text, sink.
+fn run<S: Source, K: Sink>(alloc: Global, words: &Vec<String>, source: &mut S, sink: &mut K) -> u8
+    ensures { Runs (asked_by (map string_bytes words.now.items)) (S.left source.old) (S.left source.new) (S.faults source.old) (S.faults source.new) (K.held sink.old) (K.held sink.new) (K.faults sink.old) (K.faults sink.new) result }
+{
+    let Some(ask) = read_words(words) else {
+        return tell(sink, USAGE, 2);
+    };
+    match read_all(alloc, source, TEXT_LIMIT) {
+        Ok(text) => tell_answer(alloc, ask, &text, sink),
+        Err(ReadError::Fault) => tell(sink, READ_FAULT, 5),
+        Err(ReadError::TooLong) => tell_refusal(alloc, sink, &Refusal::Long),
+        Err(ReadError::Memory) => WANT_OF_MEMORY,
+    }
+}
+
+/// One run of the desk: what it is asked by `words`, over a text that it reads from `source`, is written to `sink`. The
+/// status is 0 where the report or the verdicts were written; 2, with the usage line, for words that are no command; 3 or
+/// 4, with its line, where the text is refused; 5, with `refused read`, where the source failed; 6 where the sink failed,
+/// which then took a beginning of the text; 8 for want of memory, with nothing written.
+pub fn run_desk<R: Threads + Sync, S: Source, K: Sink>(
+    _rt: &R,
+    alloc: Global,
+    words: &Vec<String>,
+    source: &mut S,
+    sink: &mut K,
+) -> u8
+    // What is said, by the words and the bytes given, is told to the sink with its status.
+    ensures run { Runs (asked_by (map string_bytes words.now.items)) (S.left source.old) (S.left source.new) (S.faults source.old) (S.faults source.new) (K.held sink.old) (K.held sink.new) (K.faults sink.old) (K.faults sink.new) result }
+
+    // A plan that succeeds prints an accepted week's report, and no lawful plan costs another sum than its bound.
+    ensures planned { result ≡ 0 → asked_by (map string_bytes words.now.items) ≡ Some Ask.Plan → IsPlanned (S.left source.old) (S.left source.new) (K.held sink.old) (K.held sink.new) }
+
+    ensures usage_only { result ≡ 2 → asked_by (map string_bytes words.now.items) ≡ None }
+    ensures read_cause { result ≡ 5 → Rose (S.faults source.old) (S.faults source.new) }
+    ensures sink_cause { result ≡ 6 → Rose (K.faults sink.old) (K.faults sink.new) }
+{
+    run(alloc, words, source, sink)
+}

@@ -1,0 +1,435 @@
+// Whole runs over texts in memory. Each expected line was worked out by hand, or stands in the desk's formats.
+ghost use Rattle.std.specs.Prelude.{◌<◌};
+
+use crate::run_desk;
+use desk_io::{MemorySource, memory_sink};
+use minute_line::{Bytes, Many, Memory};
+use std::alloc::Global;
+use std::test::Fail;
+use std::thread::Threads;
+
+/// The most bytes that a test's sink takes.
+const ROOM: usize = 1000;
+
+/// The week row of every text here.
+const WEEK: &str = "week,2026-03-02,15,3000,15\n";
+
+/// A week text, the status, and what is written.
+type Told = (&'static str, u8, &'static str);
+
+/// Week texts: two without drivers, and one for each kind of refusal.
+const PLANS: [Told; 17] = [
+    (
+        "week,2026-03-02,15,3000,15\nplace,HUB\nplace,LYON\norder,A,LYON,2026-03-02T08:00,2026-03-02T12:00,30,12000,9000\norder,B,LYON,2026-03-03T08:00,2026-03-03T12:00,30,12000,4500\n",
+        0,
+        "week 2026-03-02\ncost 13500\nbound 13500\nstate proved\nnodes 1\norder A out 9000\norder B out 4500\n",
+    ),
+    (
+        "week,2026-03-02,15,3000,15\nplace,HUB\n",
+        0,
+        "week 2026-03-02\ncost 0\nbound 0\nstate proved\nnodes 1\n",
+    ),
+    ("", 3, "refused word 1\n"),
+    (
+        "week,2026-03-02,15,3000,15\nplace,HUB\nplace,LYON\norder,A,LYON,2026-03-02T08:00,2026-03-02T12:00,30,12000,9000\norder,B,LYON,2026-03-03T08",
+        3,
+        "refused fields 5 4\n",
+    ),
+    (
+        "week,2026-03-02,15,3000,15\nplace,HUB,x\n",
+        3,
+        "refused fields 2 3\n",
+    ),
+    ("week,2026-03-03,15,3000,15\n", 3, "refused stamp 1 2\n"),
+    (
+        "week,2026-03-02,15,3000,15\nplace,HUB\nleg,HUB,HUB,sixty,3000\n",
+        3,
+        "refused number 3 4\n",
+    ),
+    ("week,2026-03-02,15,3000,15\n", 3, "refused depot\n"),
+    (
+        "week,2026-03-02,15,3000,15\nplace,HUB\nplace,P\nleg,HUB,P,271,3000\nleg,P,HUB,60,3000\n",
+        3,
+        "refused range 4 4\n",
+    ),
+    (
+        "week,2026-03-02,15,3000,15\nplace,HUB\nplace,HUB\n",
+        3,
+        "refused double 3\n",
+    ),
+    (
+        "week,2026-03-02,15,3000,15\nplace,HUB\nplace,P\nleg,HUB,P,60,3000\nleg,P,HUB,60,3000\ndriver,D1,24000,2000\nrest,D1,2026-02-28T00:00,2700\nworked,D1,0,0,0,0,0,0,0,0,0,0,0,0,0,0,0,0,0\npast,D1,OFF,2880\norder,A,Q,2026-03-02T08:00,2026-03-02T12:00,30,12000,9000\n",
+        3,
+        "refused unknown 10 3\n",
+    ),
+    (
+        "week,2026-03-02,15,3000,15\nplace,HUB\ndriver,D0,1,1\ndriver,D1,1,1\ndriver,D2,1,1\ndriver,D3,1,1\ndriver,D4,1,1\ndriver,D5,1,1\ndriver,D6,1,1\ndriver,D7,1,1\ndriver,D8,1,1\ndriver,D9,1,1\ndriver,D10,1,1\ndriver,D11,1,1\ndriver,D12,1,1\ndriver,D13,1,1\ndriver,D14,1,1\ndriver,D15,1,1\ndriver,D16,1,1\n",
+        3,
+        "refused count drivers 17\n",
+    ),
+    (
+        "week,2026-03-02,15,3000,15\nplace,HUB\nplace,P\nleg,HUB,P,60,3000\nleg,P,HUB,60,3000\ndriver,D1,24000,2000\nrest,D1,2026-02-28T00:00,2700\nworked,D1,0,0,0,0,0,0,0,0,0,0,0,0,0,0,0,0,0\npast,D1,OFF,2880\norder,A,P,2026-03-02T08:00,2026-03-02T12:00,30,12000,9000\n",
+        3,
+        "refused drivers\n",
+    ),
+    (
+        "week,2026-03-02,15,3000,15\nplace,HUB\nplace,P\nleg,HUB,P,60,3000\nleg,P,HUB,60,3000\ndriver,D1,24000,2000\norder,A,P,2026-03-02T08:00,2026-03-02T12:00,30,12000,9000\n",
+        4,
+        "refused history D1\n",
+    ),
+    (
+        "week,2026-03-02,15,3000,15\nplace,HUB\nplace,P\nleg,HUB,P,60,3000\nleg,P,HUB,60,3000\ndriver,D1,24000,2000\nrest,D1,2026-02-28T00:00,2700\nworked,D1,0,0,0,0,0,0,0,0,0,0,0,0,0,0,0,0,0\npast,D1,OFF,2879\norder,A,P,2026-03-02T08:00,2026-03-02T12:00,30,12000,9000\n",
+        3,
+        "refused past D1 sum 2879 2880\n",
+    ),
+    (
+        "week,2026-03-02,15,3000,15\nplace,HUB\nplace,P\nleg,HUB,P,60,3000\nleg,P,HUB,60,3000\ndriver,D1,24000,2000\nworked,D1,0,0,0,0,0,0,0,0,0,0,0,0,0,0,0,0,0\npast,D1,OFF,2880\norder,A,P,2026-03-02T08:00,2026-03-02T12:00,30,12000,9000\n",
+        3,
+        "refused past D1 rest\n",
+    ),
+    (
+        "week,2026-03-02,15,3000,15\nplace,HUB\nplace,P\ndriver,D1,24000,2000\ndriver,D2,24000,2000\npast,D2,OFF,1\n",
+        3,
+        "refused past D2 rest\n",
+    ),
+];
+
+/// Check texts: none driven, the order of drivers, histories, and refusals in their order.
+const CHECK_TEXTS: [Told; 11] = [
+    ("week,2026-03-02,15,3000,15\n", 0, ""),
+    (
+        "week,2026-03-02,15,3000,15\ndid,D2,WEEKLY,360\ndid,D1,WORK,1\ndid,D2,DRIVE,271\n",
+        0,
+        "D2 broken H1 630\nD1 broken H3 0\n",
+    ),
+    (
+        "week,2026-03-02,15,3000,15\nrest,D1,2026-02-28T00:00,2700\nworked,D1,0,0,0,0,0,0,0,0,0,0,0,0,0,0,0,0,0\npast,D1,OFF,2880\ndid,D1,WEEKLY,360\n",
+        0,
+        "D1 lawful\n",
+    ),
+    (
+        "week,2026-03-02,15,3000,15\nrest,D1,2026-02-28T00:00,2700\nworked,D1,0,0,0,0,0,0,0,0,0,0,0,0,0,0,0,0,0\npast,D1,OFF,2879\ndid,D1,WEEKLY,360\n",
+        3,
+        "refused past D1 sum 2879 2880\n",
+    ),
+    (
+        "week,2026-03-02,15,3000,15\npast,D1,OFF,2880\ndid,D1,WEEKLY,360\n",
+        3,
+        "refused past D1 rest\n",
+    ),
+    (
+        "week,2026-03-02,15,3000,15\npast,D1,OFF,2880\n",
+        3,
+        "refused unknown 2 2\n",
+    ),
+    (
+        "week,2026-03-02,15,3000,15\ndid,D1,OFF,0\ndid,D1,OFF,1\n",
+        3,
+        "refused line D1 off 3\n",
+    ),
+    (
+        "week,2026-03-02,15,3000,15\ndid,D1,DRIVE,10000\ndid,D1,OFF,81\n",
+        3,
+        "refused line D1 long 10081\n",
+    ),
+    (
+        "week,2026-03-02,15,3000,15\ndid,D1,OFF,1\ndid,D1,DAILY,1\npast,D2,OFF,1\ndid,D2,OFF,1\n",
+        3,
+        "refused line D1 off 3\n",
+    ),
+    (
+        "week,2026-03-02,15,3000,15\nplace,HUB\n",
+        3,
+        "refused word 2\n",
+    ),
+    (
+        "week,2026-03-02,15,3000,15\ndid,D1,WORK,0\n",
+        3,
+        "refused range 2 4\n",
+    ),
+];
+
+/// History rows of D1, what D1 drove, and the verdict.
+const DRIVEN: [(&str, &str, &str); 29] = [
+    ("", "WEEKLY 360, DRIVE 270", "lawful"),
+    ("", "WEEKLY 360, DRIVE 271", "broken H1 630"),
+    (
+        "",
+        "WEEKLY 360, DRIVE 200, OFF 15, DRIVE 70, OFF 30, DRIVE 270",
+        "lawful",
+    ),
+    (
+        "",
+        "WEEKLY 360, DRIVE 200, OFF 30, DRIVE 70, OFF 15, DRIVE 270",
+        "broken H1 675",
+    ),
+    (
+        "",
+        "WEEKLY 360, DRIVE 200, OFF 45, DRIVE 70, OFF 30, DRIVE 270",
+        "broken H1 905",
+    ),
+    (
+        "",
+        "WEEKLY 360, DRIVE 270, OFF 45, DRIVE 270, OFF 45, DRIVE 60, DAILY 660, DRIVE 270, OFF 45, DRIVE 270, OFF 45, DRIVE 60, DAILY 660, DRIVE 270, OFF 45, DRIVE 270, OFF 45, DRIVE 1",
+        "broken H2 3690",
+    ),
+    (
+        "",
+        "WEEKLY 360, DRIVE 270, OFF 45, DRIVE 270, OFF 45, DRIVE 60, DAILY 660, DRIVE 270, OFF 45, DRIVE 270, OFF 45, DRIVE 60, DAILY 660, DRIVE 270, OFF 45, DRIVE 270",
+        "lawful",
+    ),
+    (
+        "",
+        "WEEKLY 360, WORK 60, DAILY 540, WORK 60, DAILY 540, WORK 60, DAILY 540, READY 780, DAILY 660, WORK 1",
+        "lawful",
+    ),
+    (
+        "",
+        "WEEKLY 360, WORK 60, DAILY 540, WORK 60, DAILY 540, WORK 60, DAILY 540, READY 781, DAILY 660, WORK 1",
+        "broken H4 3601",
+    ),
+    (
+        "",
+        "WEEKLY 360, WORK 60, DAILY 540, WORK 60, DAILY 540, WORK 60, DAILY 540, READY 300, OFF 180, READY 420, DAILY 540, WORK 1",
+        "lawful",
+    ),
+    (
+        "",
+        "WEEKLY 360, WORK 60, DAILY 540, WORK 60, DAILY 540, WORK 60, DAILY 540, READY 300, OFF 179, READY 421, DAILY 540, WORK 1",
+        "broken H4 3600",
+    ),
+    (
+        "",
+        "WEEKLY 360, WORK 60, DAILY 540, WORK 60, DAILY 540, WORK 60, DAILY 540, READY 300, OFF 180, READY 421, DAILY 540, WORK 1",
+        "broken H3 3060",
+    ),
+    (
+        "",
+        "WEEKLY 360, WORK 60, DAILY 540, WORK 60, DAILY 540, WORK 60, DAILY 540, WORK 60, DAILY 540, WORK 1",
+        "broken H4 2760",
+    ),
+    (
+        "",
+        "WEEKLY 360, WORK 60, DAILY 540, WORK 60, DAILY 540, WORK 60, DAILY 540, WORK 60, WEEKLY 1440, WORK 1",
+        "lawful",
+    ),
+    (
+        "",
+        "WEEKLY 0, WORK 60, DAILY 1380, WORK 60, DAILY 1380, WORK 60, DAILY 1380, WORK 60, DAILY 1380, WORK 60, DAILY 1380, WORK 60, DAILY 660, READY 720",
+        "lawful",
+    ),
+    (
+        "",
+        "WEEKLY 0, WORK 60, DAILY 1380, WORK 60, DAILY 1380, WORK 60, DAILY 1380, WORK 60, DAILY 1380, WORK 60, DAILY 1380, WORK 60, DAILY 660, READY 721",
+        "broken H6 8640",
+    ),
+    (
+        "",
+        "WEEKLY 360, WORK 60, WEEKLY 1440, WORK 60, WEEKLY 1440, WORK 1",
+        "broken H5 3360",
+    ),
+    (
+        "",
+        "WEEKLY 360, WORK 60, WEEKLY 1440, WORK 60, DAILY 1440, WORK 1",
+        "lawful",
+    ),
+    (
+        "rest,D1,2026-02-28T00:00,2700\nworked,D1,3360,2400,2400,2400,2400,2400,2400,2400,2400,2400,2400,2400,2400,2400,2400,2400,2400\npast,D1,OFF,2880\n",
+        "WEEKLY 360, DRIVE 270, OFF 45, DRIVE 270, DAILY 660, DRIVE 270, OFF 45, DRIVE 270, DAILY 660, DRIVE 270, OFF 45, DRIVE 270, DAILY 660, DRIVE 270, OFF 45, DRIVE 150",
+        "lawful",
+    ),
+    (
+        "rest,D1,2026-02-28T00:00,2700\nworked,D1,3360,2400,2400,2400,2400,2400,2400,2400,2400,2400,2400,2400,2400,2400,2400,2400,2400\npast,D1,OFF,2880\n",
+        "WEEKLY 360, DRIVE 270, OFF 45, DRIVE 270, DAILY 660, DRIVE 270, OFF 45, DRIVE 270, DAILY 660, DRIVE 270, OFF 45, DRIVE 270, DAILY 660, DRIVE 270, OFF 45, DRIVE 151",
+        "broken H8 4560",
+    ),
+    (
+        "rest,D1,2026-02-28T00:00,2700\nworked,D1,0,2880,2880,2880,2880,2880,2880,2880,2880,2880,2880,2880,2880,2880,2880,2880,2880\npast,D1,OFF,2880\n",
+        "WEEKLY 360, WORK 360, OFF 45, WORK 180, DAILY 660, WORK 360, OFF 45, WORK 180, DAILY 660, WORK 360, OFF 45, WORK 180, DAILY 660, WORK 360, OFF 45, WORK 180, DAILY 660, WORK 360, OFF 45, WORK 180, DAILY 660, WORK 180",
+        "lawful",
+    ),
+    (
+        "rest,D1,2026-02-28T00:00,2700\nworked,D1,0,2880,2880,2880,2880,2880,2880,2880,2880,2880,2880,2880,2880,2880,2880,2880,2880\npast,D1,OFF,2880\n",
+        "WEEKLY 360, WORK 360, OFF 45, WORK 180, DAILY 660, WORK 360, OFF 45, WORK 180, DAILY 660, WORK 360, OFF 45, WORK 180, DAILY 660, WORK 360, OFF 45, WORK 180, DAILY 660, WORK 360, OFF 45, WORK 180, DAILY 660, WORK 181",
+        "broken H9 6765",
+    ),
+    (
+        "rest,D1,2026-02-28T00:00,2700\nworked,D1,0,3060,3060,3060,3060,3060,3060,3060,3060,3060,3060,3060,3060,3060,3060,3060,3060\npast,D1,OFF,2880\n",
+        "WEEKLY 360, WORK 1",
+        "broken H9 360",
+    ),
+    (
+        "rest,D1,2026-02-28T00:00,2700\nworked,D1,0,3060,3060,3060,3060,3060,3060,3060,3060,3060,3060,3060,3060,3060,3060,3060,3060\npast,D1,OFF,2880\n",
+        "WEEKLY 360, READY 1",
+        "lawful",
+    ),
+    ("", "WEEKLY 360, WORK 360", "lawful"),
+    ("", "WEEKLY 360, WORK 361", "broken H10 720"),
+    ("", "WEEKLY 360, WORK 360, OFF 30, WORK 180", "lawful"),
+    (
+        "",
+        "WEEKLY 360, WORK 360, OFF 30, WORK 181",
+        "broken H11 930",
+    ),
+    ("", "WORK 1", "broken H3 0"),
+];
+
+/// What a run over a text in memory ends with, and what its sink then holds. The devices move at most `piece` bytes in a
+/// call, and the calls of these numbers fail.
+fn run_with<R: Threads + Sync>(
+    rt: &R,
+    alloc: Global,
+    words: &[&str],
+    text: &[u8],
+    piece: usize,
+    fails: (u64, u64),
+) -> Result<(u8, Vec<u8>), Memory>
+    requires { 0 < piece }
+{
+    let mut given = Vec::new(alloc);
+    for word in words {
+        given.push(String::from_str(alloc, word)?)?;
+    }
+    let mut source = MemorySource {
+        bytes: Many::from_slice(alloc, text)?,
+        at: 0,
+        piece,
+        calls: 0,
+        fails: Many::from_slice(alloc, &[fails.0])?,
+        faults: 0,
+    };
+    let mut sink = memory_sink(alloc, ROOM, piece, Many::from_slice(alloc, &[fails.1])?)?;
+    let status = run_desk(rt, alloc, &given, &mut source, &mut sink);
+    Ok((status, Vec::from_slice(alloc, sink.held.as_slice())?))
+}
+
+/// Whether a run of one word ends with this status, having written this.
+fn tells<R: Threads + Sync>(
+    rt: &R,
+    alloc: Global,
+    word: &str,
+    text: &[u8],
+    want: (u8, &str),
+) -> Result<bool, Memory> {
+    let (status, written) = run_with(rt, alloc, &[word], text, 4096, (0, 0))?;
+    Ok(status == want.0 && written.as_slice() == want.1.as_bytes())
+}
+
+#[test]
+fn a_week_text_is_planned_or_has_its_first_refusal(rt: HostRuntime) -> Result<(), Fail> {
+    for (text, status, reply) in PLANS {
+        let told = tells(&rt, rt.alloc(), "plan", text.as_bytes(), (status, reply));
+        assert!(rt; told == Ok(true), "at {text}");
+    }
+    let told = tells(
+        &rt,
+        rt.alloc(),
+        "plan",
+        b"week,2026-03-02,15,3000,15\nplace,\xFF\n",
+        (3, "refused utf8 33\n"),
+    );
+    assert!(rt; told == Ok(true), "at a byte that begins no character");
+    Ok(())
+}
+
+#[test]
+fn a_check_text_is_judged_or_has_its_first_refusal(rt: HostRuntime) -> Result<(), Fail> {
+    for (text, status, reply) in CHECK_TEXTS {
+        let told = tells(&rt, rt.alloc(), "check", text.as_bytes(), (status, reply));
+        assert!(rt; told == Ok(true), "at {text}");
+    }
+    Ok(())
+}
+
+/// The check text of what D1 drove: words and minutes, with a comma between two.
+fn check_text_of(alloc: Global, history: &str, driven: &str) -> Result<Bytes, Memory> {
+    let mut text = Many::from_slice(alloc, WEEK.as_bytes())?;
+    text.extend_from_slice(history.as_bytes())?;
+    for part in driven.split(',') {
+        let (word, minutes) = part.trim().split_once(' ').unwrap_or(("", ""));
+        text.extend_from_slice(b"did,D1,")?;
+        text.extend_from_slice(word.as_bytes())?;
+        text.push(b',')?;
+        text.extend_from_slice(minutes.as_bytes())?;
+        text.push(b'\n')?;
+    }
+    Ok(text)
+}
+
+#[test]
+fn each_rule_breaks_at_its_minute(rt: HostRuntime) -> Result<(), Fail> {
+    for (history, driven, verdict) in DRIVEN {
+        let text = check_text_of(rt.alloc(), history, driven)
+            .ok()
+            .ok_or("memory")?;
+        let (status, written) = run_with(&rt, rt.alloc(), &["check"], text.as_slice(), 4096, (0, 0))
+            .ok()
+            .ok_or("memory")?;
+        let line = format!(in rt.alloc(); "D1 {verdict}\n")?;
+        assert_eq!(rt; status, 0, "at {driven}");
+        assert!(rt; written.as_slice() == line.as_bytes(), "at {driven}");
+    }
+    Ok(())
+}
+
+#[test]
+fn words_and_devices_decide_the_status(rt: HostRuntime) -> Result<(), Fail> {
+    let (text, _, report) = PLANS[0];
+    // the most bytes of a call, the read and the write that fail, the status, and how much of the report is written
+    for (piece, fails, status, length) in [
+        (1, (0, 0), 0, 94),
+        (20, (0, 0), 0, 94),
+        (50, (0, 0), 0, 94),
+        (20, (0, 2), 6, 20),
+        (50, (0, 1), 6, 0),
+        (1, (0, 94), 6, 93),
+    ] {
+        assert!(rt; piece > 0);
+        let (ended, written) = run_with(&rt, rt.alloc(), &["plan"], text.as_bytes(), piece, fails)
+            .ok()
+            .ok_or("memory")?;
+        assert_eq!(rt; ended, status, "by {piece}");
+        assert!(rt;
+            Some(written.as_slice()) == report.as_bytes().get(..length),
+            "by {piece}"
+        );
+    }
+    for (piece, fails) in [(50, (1, 0)), (50, (3, 0)), (1, (170, 0))] {
+        assert!(rt; piece > 0);
+        let (ended, written) = run_with(&rt, rt.alloc(), &["plan"], text.as_bytes(), piece, fails)
+            .ok()
+            .ok_or("memory")?;
+        assert_eq!(rt; ended, 5, "by {piece}");
+        assert!(rt;
+            written.as_slice() == b"refused read\n".as_slice(),
+            "by {piece}"
+        );
+    }
+    let usage = b"usage: desk plan|check|publish|show|export|make|serve [--name value]\n";
+    for words in [[].as_slice(), &["plan", "plan"], &["plans"], &[""]] {
+        let (ended, written) = run_with(&rt, rt.alloc(), words, text.as_bytes(), 50, (1, 0))
+            .ok()
+            .ok_or("memory")?;
+        assert_eq!(rt; ended, 2);
+        assert!(rt; written.as_slice() == usage.as_slice());
+    }
+    Ok(())
+}
+
+#[test]
+fn a_text_may_have_1048576_bytes(rt: HostRuntime) -> Result<(), Fail> {
+    let (text, _, report) = PLANS[0];
+    for (length, want) in [(1_048_576, (0, report)), (1_048_577, (3, "refused long\n"))] {
+        let mut long = Many::from_slice(rt.alloc(), text.as_bytes())
+            .ok()
+            .ok_or("memory")?;
+        for _ in long.len()..length {
+            long.push(b'\n').ok().ok_or("memory")?;
+        }
+        assert!(rt;
+            tells(&rt, rt.alloc(), "plan", long.as_slice(), want) == Ok(true),
+            "at {length} bytes"
+        );
+    }
+    Ok(())
+}
