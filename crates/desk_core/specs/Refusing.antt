@@ -15,8 +15,8 @@ Meets view (Ok value) said = said ≡ Ok (view value)
 Meets view (Err (Refused refusal)) said = said ≡ Err refusal
 Meets view (Err Memory) said = ⊤
 
--- what comes next, unless the text is refused
 infixl 10 ◌>>=◌
+-- what comes next, unless the text is refused
 abbrev pub ◌>>=◌ : {A B : Type 0} → Result A Refusal → (A → Result B Refusal) → Result B Refusal
 (Ok x) >>= next = next x
 (Err refusal) >>= next = Err refusal

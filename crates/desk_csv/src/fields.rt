@@ -11,6 +11,7 @@ use minute_line::{Monday, minute_in, monday_in};
 use week_book::Word;
 
 /// The field of that number, from 1, or no bytes where there is none.
+#[inline]
 pub(crate) fn field(fields: &ByteRecord, n: u32) -> &[u8]
     requires { 1 ≤ n }
     ensures { result.now ≡ field n (fields_of fields.now) }
@@ -23,6 +24,7 @@ pub(crate) fn field(fields: &ByteRecord, n: u32) -> &[u8]
 
 /// The number of fields, which the row's word asks to be `wanted`.
 #[tactic(auto, unfolding(crate::specs::Fields::counted))]
+#[inline]
 pub(crate) fn count(row: u32, wanted: usize, fields: &ByteRecord) -> Result<usize, CsvError>
     requires { length (fields_of fields.now) < 2 ^ 32 }
     ensures { Gives WantOfMemory (λ n. n) result (counted row wanted (fields_of fields.now)) }
@@ -35,6 +37,7 @@ pub(crate) fn count(row: u32, wanted: usize, fields: &ByteRecord) -> Result<usiz
 }
 
 /// The number that ASCII digits make.
+#[inline]
 fn digits(text: &[u8]) -> Option<u64>
     requires { length text.now ≤ 10 }
     ensures { result ≡ digits_from 0 text.now }
@@ -51,6 +54,7 @@ fn digits(text: &[u8]) -> Option<u64>
 
 /// The number that 1 to 10 ASCII digits make.
 #[tactic(auto, unfolding(crate::specs::Fields::number_of))]
+#[inline]
 fn read_number(text: &[u8]) -> Option<u64>
     ensures { result ≡ number_of text.now }
 {
@@ -62,6 +66,7 @@ fn read_number(text: &[u8]) -> Option<u64>
 
 /// The number in a field.
 #[tactic(auto, unfolding(crate::specs::Fields::number_at))]
+#[inline]
 pub(crate) fn number(row: u32, n: u32, fields: &ByteRecord) -> Result<u64, CsvError>
     requires { 1 ≤ n }
     ensures { Gives WantOfMemory (λ x. x) result (number_at row n (fields_of fields.now)) }
@@ -70,6 +75,7 @@ pub(crate) fn number(row: u32, n: u32, fields: &ByteRecord) -> Result<u64, CsvEr
 }
 
 /// The numbers in the sixteen fields from the fourth on.
+#[inline]
 pub(crate) fn sixteen(row: u32, fields: &ByteRecord) -> Result<[u64; 16], CsvError>
     ensures { Gives WantOfMemory (λ xs. xs) result (numbers_at row 4 16 (fields_of fields.now)) }
 {
@@ -82,6 +88,7 @@ pub(crate) fn sixteen(row: u32, fields: &ByteRecord) -> Result<[u64; 16], CsvErr
 
 /// The mark word in a field.
 #[tactic(auto, unfolding(crate::specs::Fields::word_at))]
+#[inline]
 pub(crate) fn word(row: u32, n: u32, fields: &ByteRecord) -> Result<Word, CsvError>
     requires { 1 ≤ n }
     ensures { Gives WantOfMemory (λ w. w) result (word_at row n (fields_of fields.now)) }
@@ -106,6 +113,7 @@ pub(crate) fn word(row: u32, n: u32, fields: &ByteRecord) -> Result<Word, CsvErr
 
 /// The Monday in a field.
 #[tactic(auto, unfolding(crate::specs::Fields::monday_at))]
+#[inline]
 pub(crate) fn monday(row: u32, n: u32, fields: &ByteRecord) -> Result<Monday, CsvError>
     requires { 1 ≤ n }
     ensures { Gives WantOfMemory (λ m. m) result (monday_at row n (fields_of fields.now)) }
@@ -115,6 +123,7 @@ pub(crate) fn monday(row: u32, n: u32, fields: &ByteRecord) -> Result<Monday, Cs
 
 /// The stamp in a field, in minutes from the Monday.
 #[tactic(auto, unfolding(crate::specs::Fields::stamp_at))]
+#[inline]
 pub(crate) fn stamp(monday: Monday, row: u32, n: u32, fields: &ByteRecord) -> Result<i64, CsvError>
     requires { 1 ≤ n }
     ensures { Gives WantOfMemory (λ m. m) result (stamp_at monday.day row n (fields_of fields.now)) }

@@ -14,6 +14,7 @@ use std::alloc::Global;
 use week_book::{Row, Word};
 
 /// The name in a field, which may be any bytes.
+#[inline(always)]
 fn name(alloc: Global, n: u32, fields: &ByteRecord) -> Result<Name, CsvError>
     requires { 1 ≤ n }
     ensures { Gives WantOfMemory (λ name. name) result (Ok (field n (fields_of fields.now))) }
@@ -23,6 +24,7 @@ fn name(alloc: Global, n: u32, fields: &ByteRecord) -> Result<Name, CsvError>
 
 /// A week row.
 #[tactic(auto, unfolding(crate::specs::RowKinds::week_at))]
+#[inline(always)]
 fn week(row: u32, fields: &ByteRecord) -> Result<Row, CsvError>
     requires { length (fields_of fields.now) < 2 ^ 32 }
     ensures { Gives WantOfMemory (λ row. row) result (week_at row (fields_of fields.now)) }
@@ -39,6 +41,7 @@ fn week(row: u32, fields: &ByteRecord) -> Result<Row, CsvError>
 
 /// A place row.
 #[tactic(auto, unfolding(crate::specs::RowKinds::place_at))]
+#[inline(always)]
 fn place(alloc: Global, row: u32, fields: &ByteRecord) -> Result<Row, CsvError>
     requires { length (fields_of fields.now) < 2 ^ 32 }
     ensures { Gives WantOfMemory (λ row. row) result (place_at row (fields_of fields.now)) }
@@ -52,6 +55,7 @@ fn place(alloc: Global, row: u32, fields: &ByteRecord) -> Result<Row, CsvError>
 
 /// A leg row.
 #[tactic(auto, unfolding(crate::specs::RowKinds::leg_at))]
+#[inline(always)]
 fn leg(alloc: Global, row: u32, fields: &ByteRecord) -> Result<Row, CsvError>
     requires { length (fields_of fields.now) < 2 ^ 32 }
     ensures { Gives WantOfMemory (λ row. row) result (leg_at row (fields_of fields.now)) }
@@ -68,6 +72,7 @@ fn leg(alloc: Global, row: u32, fields: &ByteRecord) -> Result<Row, CsvError>
 
 /// A driver row.
 #[tactic(auto, unfolding(crate::specs::RowKinds::driver_at))]
+#[inline(always)]
 fn driver(alloc: Global, row: u32, fields: &ByteRecord) -> Result<Row, CsvError>
     requires { length (fields_of fields.now) < 2 ^ 32 }
     ensures { Gives WantOfMemory (λ row. row) result (driver_at row (fields_of fields.now)) }
@@ -83,6 +88,7 @@ fn driver(alloc: Global, row: u32, fields: &ByteRecord) -> Result<Row, CsvError>
 
 /// A rest row.
 #[tactic(auto, unfolding(crate::specs::RowKinds::rest_at))]
+#[inline(always)]
 fn rest(alloc: Global, monday: Monday, row: u32, fields: &ByteRecord) -> Result<Row, CsvError>
     requires { length (fields_of fields.now) < 2 ^ 32 }
     ensures { Gives WantOfMemory (λ row. row) result (rest_at monday.day row (fields_of fields.now)) }
@@ -98,6 +104,7 @@ fn rest(alloc: Global, monday: Monday, row: u32, fields: &ByteRecord) -> Result<
 
 /// A worked row.
 #[tactic(auto, unfolding(crate::specs::RowKinds::worked_at))]
+#[inline(always)]
 fn worked(alloc: Global, row: u32, fields: &ByteRecord) -> Result<Row, CsvError>
     requires { length (fields_of fields.now) < 2 ^ 32 }
     ensures { Gives WantOfMemory (λ row. row) result (worked_at row (fields_of fields.now)) }
@@ -113,6 +120,7 @@ fn worked(alloc: Global, row: u32, fields: &ByteRecord) -> Result<Row, CsvError>
 
 /// The mark word of a `past` or `did` row, which is tried before the number of fields where there are three.
 #[tactic(auto, unfolding(crate::specs::RowKinds::marked_at))]
+#[inline(always)]
 fn marked(row: u32, fields: &ByteRecord) -> Result<Word, CsvError>
     requires { length (fields_of fields.now) < 2 ^ 32 }
     ensures { Gives WantOfMemory (λ word. word) result (marked_at row (fields_of fields.now)) }
@@ -127,6 +135,7 @@ fn marked(row: u32, fields: &ByteRecord) -> Result<Word, CsvError>
 
 /// A past row.
 #[tactic(auto, unfolding(crate::specs::RowKinds::past_at))]
+#[inline(always)]
 fn past(alloc: Global, row: u32, fields: &ByteRecord) -> Result<Row, CsvError>
     requires { length (fields_of fields.now) < 2 ^ 32 }
     ensures { Gives WantOfMemory (λ row. row) result (past_at row (fields_of fields.now)) }
@@ -141,6 +150,7 @@ fn past(alloc: Global, row: u32, fields: &ByteRecord) -> Result<Row, CsvError>
 
 /// A did row.
 #[tactic(auto, unfolding(crate::specs::RowKinds::did_at))]
+#[inline(always)]
 fn did(alloc: Global, row: u32, fields: &ByteRecord) -> Result<Row, CsvError>
     requires { length (fields_of fields.now) < 2 ^ 32 }
     ensures { Gives WantOfMemory (λ row. row) result (did_at row (fields_of fields.now)) }
@@ -155,6 +165,7 @@ fn did(alloc: Global, row: u32, fields: &ByteRecord) -> Result<Row, CsvError>
 
 /// An order row.
 #[tactic(auto, unfolding(crate::specs::RowKinds::order_at))]
+#[inline(always)]
 fn order(alloc: Global, monday: Monday, row: u32, fields: &ByteRecord) -> Result<Row, CsvError>
     requires { length (fields_of fields.now) < 2 ^ 32 }
     ensures { Gives WantOfMemory (λ row. row) result (order_at monday.day row (fields_of fields.now)) }
@@ -174,6 +185,7 @@ fn order(alloc: Global, monday: Monday, row: u32, fields: &ByteRecord) -> Result
 
 /// A row whose word one form alone has.
 #[tactic(auto, unfolding(crate::specs::RowKinds::own_row_at))]
+#[inline(always)]
 fn own_row(
     alloc: Global,
     form: Form,
@@ -211,6 +223,7 @@ fn own_row(
 
 /// The row that a record says, in a text of that form.
 #[tactic(auto, unfolding(crate::specs::RowKinds::row_at))]
+#[inline(always)]
 pub(crate) fn read_row(
     alloc: Global,
     form: Form,

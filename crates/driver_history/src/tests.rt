@@ -5,7 +5,7 @@ ghost use Rattle.week_book.specs.Pasts.{HasPastRows};
 
 use crate::{HistoryError, LineError, advance, idle, read_line, read_past};
 use hours_rules::{Verdict, judge};
-use minute_line::{History, Kind, Line, Many, Mark, Memory, Name, Stint};
+use minute_line::{History, Line, Many, Memory, Name, history_read, history_text};
 use std::alloc::Global;
 use std::process::Abort;
 use std::test::Fail;
@@ -199,16 +199,13 @@ fn a_weekly_rest_in_the_week_ends_the_old_line(rt: HostRuntime) -> Result<(), Fa
     let next = moved(alloc, &history, &line)?.expect(&rt, "the week is lawful");
     assert!(rt; next.prev_weekly == 3285 && next.open_off == 9510 && next.prev_drive == 120);
     assert!(rt; next.work16[0] == 0 && next.work16[15] == 165);
-    let left = next.stints.stints.as_slice();
+    let text = history_text(alloc, &next)?;
     assert!(rt;
-        left.len() == 4
-            && left[0]
-                == Stint {
-                    mark: Mark::Work,
-                    minutes: 15,
-                    kind: Kind::Plain
-                }
+        text.as_slice()
+            == b"3285 120 0,0,0,0,0,0,0,0,0,0,0,0,0,0,0,165 9510 W15,D60,W30,D60".as_slice()
     );
+    let back = history_read(alloc, text.as_slice())?;
+    assert!(rt; back.open_off == 9510 && back.stints.stints.len() == 4);
     assert!(rt; idle(alloc, &next, 0)?.open_off == 9510, "no week");
     assert!(rt; idle(alloc, &next, 2)?.open_off == 20160, "two weeks");
     Ok(())

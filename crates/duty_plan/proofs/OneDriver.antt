@@ -18,3 +18,10 @@ pub all-two : {X : Type 0} (P : X → Type 0) (x y : X) → P x → P y → All 
 all-two P x y p q zero d lt = p
 all-two P x y p q (suc zero) d lt = q
 all-two P x y p q (suc (suc k)) d lt = absurd (omega (arith, lt))
+
+pub distinct-none : {K : Type 0} (e : K → K → Bool) → IsDistinct e []
+unfolding IsDistinct
+distinct-none e = search rules
+
+pub all-none : {X : Type 0} (P : X → Type 0) → All P []
+all-none P k d lt = absurd (omega (arith, lt))

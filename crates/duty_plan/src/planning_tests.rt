@@ -6,6 +6,7 @@ ghost use Rattle.duty_plan.specs.Duties.{price_of, IsCase};
 ghost use Rattle.duty_plan.specs.Values.{decided_by, lagrangian, IsPairs, IsPrices, IsLeastValue};
 ghost use Rattle.duty_plan.specs.Rounds.{next_price};
 
+use crate::tests::{drivers, no_legs, no_orders, places};
 use crate::{
     Case, Decision, Duty, Limits, Node, NodeState, Outcome, Pair, Pairs, Plan, Planner, Priced,
     Pricer, Prices, State,
@@ -143,27 +144,19 @@ fn next_price_by_hand()
     ensures a_cent { next_price 99 100 0 50 ≡ 51 }
 {}
 
-/// A week of the depot and one driver, without legs and orders.
+/// A week of two places and one driver, without legs and orders.
 fn bare_week(alloc: Global, monday: Monday) -> Result<Week, Memory>
     ensures { IfOk result (λ week. IsWeek week × (length week.orders ≡ 0) × (length week.drivers ≡ 1)) }
 {
-    let mut places = Many::new(alloc);
-    places.push(Many::new(alloc))?;
-    let mut drivers = Many::new(alloc);
-    drivers.push(Driver {
-        name: Many::new(alloc),
-        capacity: 24000,
-        fee: 2000,
-    })?;
     Ok(Week {
         monday,
         load: 15,
         night: 3000,
         grid: 15,
-        places,
-        legs: Many::new(alloc),
-        drivers,
-        orders: Many::new(alloc),
+        places: places(alloc)?,
+        legs: no_legs(alloc),
+        drivers: drivers(alloc)?,
+        orders: no_orders(alloc),
     })
 }
 

@@ -24,7 +24,7 @@ fn leg(from: u32, to: u32) -> Leg
 }
 
 /// The depot HUB and the place P.
-fn places(alloc: Global) -> Result<Many<Name>, Memory>
+pub(crate) fn places(alloc: Global) -> Result<Many<Name>, Memory>
     ensures { IfOk result (λ places. (length places ≡ 2) × AreNames places) }
 {
     let mut places = Many::new(alloc);
@@ -43,8 +43,16 @@ fn legs(alloc: Global) -> Result<Many<Leg>, Memory>
     Ok(legs)
 }
 
+/// No legs.
+pub(crate) fn no_legs(alloc: Global) -> Many<Leg>
+    ensures { (length result ≡ 0) × All (IsLeg 2) result × IsDistinct same_ends result }
+{
+    let none = Many::new(alloc);
+    none
+}
+
 /// One driver with a lorry of 24,000 kg.
-fn drivers(alloc: Global) -> Result<Many<Driver>, Memory>
+pub(crate) fn drivers(alloc: Global) -> Result<Many<Driver>, Memory>
     ensures { IfOk result (λ drivers. (length drivers ≡ 1) × All IsDriver drivers
         × AreNames (map (λ driver. driver.name) drivers)) }
 {
@@ -73,6 +81,14 @@ fn orders(alloc: Global) -> Result<Many<Order>, Memory>
         price: 9000,
     })?;
     Ok(orders)
+}
+
+/// No orders.
+pub(crate) fn no_orders(alloc: Global) -> Many<Order>
+    ensures { (length result ≡ 0) × All (IsOrder 2) result × AreNames (map (λ order. order.name) result) }
+{
+    let none = Many::new(alloc);
+    none
 }
 
 /// The case: a history that ends in an open off run of two days.
