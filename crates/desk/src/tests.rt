@@ -95,7 +95,7 @@ const PLANS: [Told; 17] = [
 ];
 
 /// Check texts: none driven, the order of drivers, histories, and refusals in their order.
-const CHECK_TEXTS: [Told; 11] = [
+const CHECK_TEXTS: [Told; 15] = [
     ("week,2026-03-02,15,3000,15\n", 0, ""),
     (
         "week,2026-03-02,15,3000,15\ndid,D2,WEEKLY,360\ndid,D1,WORK,1\ndid,D2,DRIVE,271\n",
@@ -141,6 +141,26 @@ const CHECK_TEXTS: [Told; 11] = [
         "week,2026-03-02,15,3000,15\nplace,HUB\n",
         3,
         "refused word 2\n",
+    ),
+    (
+        "week,2026-03-02,15,3000,15\nrest,D1,2026-02-28T00:00,2700\npast,D1,OFF,2880\ndid,D1,WEEKLY,360\n",
+        3,
+        "refused past D1 worked\n",
+    ),
+    (
+        "week,2026-03-02,15,3000,15\nrest,D1,2026-02-28T00:00,2700\nworked,D1,0,0,0,0,0,0,0,0,0,0,0,0,0,0,0,0,0\npast,D1,OFF,100\npast,D1,DAILY,2780\ndid,D1,WEEKLY,360\n",
+        3,
+        "refused past D1 off 5\n",
+    ),
+    (
+        "week,2026-03-02,15,3000,15\nrest,D1,2026-02-28T00:00,2700\nworked,D1,0,0,0,0,0,0,0,0,0,0,0,0,0,0,0,0,0\npast,D1,WEEKLY,1440\npast,D1,OFF,1440\ndid,D1,WEEKLY,360\n",
+        3,
+        "refused past D1 weekly 4\n",
+    ),
+    (
+        "week,2026-03-02,15,3000,15\nrest,D1,2026-02-01T00:00,2700\nworked,D1,0,0,0,0,0,0,0,0,0,0,0,0,0,0,0,0,0\npast,D1,WORK,30000\npast,D1,OFF,11760\ndid,D1,WEEKLY,360\n",
+        3,
+        "refused past D1 long 30000\n",
     ),
     (
         "week,2026-03-02,15,3000,15\ndid,D1,WORK,0\n",
