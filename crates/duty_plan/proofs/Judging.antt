@@ -98,7 +98,7 @@ broken-front past week (Err broken) h = sym h
 -- the verdict of a walk that stands for the whole duty
 pub whole-duty : (case : Case) (driver : ℕ) (lorry : Driver) (history : History) (duty : Duty) (walk : Walk) → driver_of case.week driver ≡ Some lorry →
     slice_get case.past driver ≡ Some history → StandsFor case.week lorry history (front_of duty) walk →
-    verdict_after None (eqb walk.place 0) (broken_of walk.hours) (cond (eqb walk.steps 0) 0 (lorry.fee + walk.cents)) ≡ duty_verdict case driver duty
+    verdict_after None (eqb walk.position.place 0) (broken_of walk.hours) (cond (eqb walk.steps 0) 0 (lorry.fee + walk.cents)) ≡ duty_verdict case driver duty
 whole-duty case driver lorry history duty walk a b s =
     let open_off : open_off_at case driver ≡ history.open_off = ap open_or_none b in
     let capacity : capacity_at case driver ≡ lorry.capacity = ap capacity_or_none a in
@@ -108,7 +108,7 @@ whole-duty case driver lorry history duty walk a b s =
     let hours : broken_of walk.hours ≡ fault (past_of history) (line_after case.week (front_of duty)) =
     broken-front (past_of history) (line_after case.week (front_of duty)) walk.hours s.hours in
     let cost = cost-front case driver lorry (front_of duty) walk.steps walk.cents a s.steps s.cents in
-    rw (open_off, capacity, office, past, s.place, hours, cost) refl
+    rw (open_off, capacity, office, past, s.position.place, hours, cost) refl
 
 -- what a verdict says in the words of the subject
 pub record Says (case : Case) (driver : ℕ) (duty : Duty) (answer : Result ℕ DutyFault) : Type 0 where

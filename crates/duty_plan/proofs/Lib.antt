@@ -2,6 +2,7 @@ pub mod Lists
 pub mod WeekLimits
 pub mod Runs
 pub mod Keeping
+pub mod OfficeSteps
 pub mod Stepping
 pub mod Judging
 pub mod Stretches

@@ -23,7 +23,8 @@ use Rattle.duty_plan.specs.Fronts.{Front, at_after, start_of, place_after, line_
 use Rattle.duty_plan.specs.Duties.{cents_after, night_of}
 use Rattle.duty_plan.specs.declared.walks.Walk.{Walk}
 use Rattle.minute_line.specs.declared.lines.History.{History}
-use Rattle.duty_plan.specs.Walks.{HasBit, StandsFor}
+use Rattle.duty_plan.specs.Positions.{HasBit}
+use Rattle.duty_plan.specs.Walks.{StandsFor}
 
 -- what holds of each holds of one that a look-up finds
 pub all-slice_get : {X : Type 0} (P : X → Type 0) (xs : List X) (i : ℕ) (x : X) → All P xs → slice_get xs i ≡ Some x → P x
@@ -146,8 +147,6 @@ cheap week open_off capacity (step ∷ before) w k =
 -- the numbers of a walk are small
 pub record IsBounded (walk : Walk) : Type 0 where
   pub steps : walk.steps ≤ 10080
-  pub at : walk.at ≤ 10080
-  pub used : walk.used ≤ 100000
   pub cents : walk.cents ≤ 20160000000
 
 pub bounded : (week : Week) (driver : Driver) (history : History) (front : Front) (walk : Walk) → IsWeek week → IsDriver driver →
@@ -156,7 +155,5 @@ bounded week driver history front walk w d s =
     let few = few-steps week history.open_off driver.capacity front w s.office in
     let end = early week history.open_off driver.capacity front s.office in record {
       steps = omega (arith, s.steps, few, end);
-      at = omega (arith, s.at, end);
-      used = omega (arith, s.used, light week history.open_off driver.capacity front s.office, d.capacity.1);
       cents = omega (arith, s.cents, cheap week history.open_off driver.capacity front w s.office, few, end);
     }

@@ -4,6 +4,7 @@ pub mod Duties
 pub mod Verdicts
 pub mod Stints
 pub mod Sums
+pub mod Positions
 pub mod Walks
 pub mod Laws
 pub mod Values

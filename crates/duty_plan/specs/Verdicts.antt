@@ -37,6 +37,19 @@ tests_of_step week open_off capacity step before =
     ∷ record { passes = serves_anew step before; fault = Twice (length before) }
     ∷ []
 
+-- the fault, told of the step of that number
+abbrev pub numbered : ℕ → DutyFault → DutyFault
+numbered number (Road step) = Road number
+numbered number (Stay step) = Stay number
+numbered number (Away step) = Away number
+numbered number (Grid step) = Grid number
+numbered number (Late step) = Late number
+numbered number (Window step) = Window number
+numbered number (Load step) = Load number
+numbered number (Twice step) = Twice number
+numbered number NotHome = NotHome
+numbered number (Rule broken) = Rule broken
+
 -- what is there already, or else what comes later
 abbrev pub earlier_or : Option DutyFault → Option DutyFault → Option DutyFault
 earlier_or (Some found) later = Some found

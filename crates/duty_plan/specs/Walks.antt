@@ -1,6 +1,5 @@
 -- What a judge keeps of the steps behind it. The contracts of private functions cite this; no public clause does.
-use Rattle.std.specs.Prelude.{◌≡◌, ℕ, ◌<◌, if◌then◌else◌, Option, Some, None, Result, Ok, Err, MatchResult, ◌∷◌, length, ◌*◌, ◌≤◌, List}
-use Rattle.std.specs.Int.{bit_at}
+use Rattle.std.specs.Prelude.{◌≡◌, ℕ, Option, Some, None, Result, Ok, Err, MatchResult, ◌∷◌, length, ◌*◌, ◌≤◌, List}
 use Rattle.minute_line.specs.declared.lines.History.{History}
 use Rattle.hours_rules.specs.declared.clocks.Clock.{Clock}
 use Rattle.hours_rules.specs.declared.rules.Broken.{Broken}
@@ -8,37 +7,22 @@ use Rattle.hours_rules.specs.Going.{Answers}
 use Rattle.hours_rules.specs.Verdicts.{past_of}
 use Rattle.week_book.specs.declared.weeks.Driver.{Driver}
 use Rattle.week_book.specs.declared.weeks.Week.{Week}
-use Rattle.duty_plan.specs.declared.duties.Act.{Act}
-use Rattle.duty_plan.specs.declared.duties.Act.TheVariants.{Leg, Serve, Load}
 use Rattle.duty_plan.specs.declared.duties.Duty.{Duty}
 use Rattle.duty_plan.specs.declared.duties.Step.{Step}
 use Rattle.duty_plan.specs.declared.plans.Case.{Case}
 use Rattle.duty_plan.specs.declared.faults.PlanFault.{PlanFault}
 use Rattle.duty_plan.specs.declared.faults.DutyFault.{DutyFault}
 use Rattle.duty_plan.specs.declared.walks.Walk.{Walk}
-use Rattle.duty_plan.specs.Fronts.{Front, at_after, place_after, used_after, loaded_after, serves, line_after, KeepsOfficeThrough}
+use Rattle.duty_plan.specs.Fronts.{Front, line_after, KeepsOfficeThrough}
 use Rattle.duty_plan.specs.Duties.{cents_after, cost_of_duties, front_of, orders_of, times}
 use Rattle.duty_plan.specs.Verdicts.{first_failed, tests_of_step, duties_fault}
-
--- bit by bit, the number says which orders the front serves
-abbrev pub MarksServed : ℕ → Front → Type 0
-MarksServed bits front = (order : ℕ) → bit_at bits order ≡ (if serves order front then 1 else 0)
-
--- an order that the act serves has a bit of its own
-abbrev pub HasBit : Act → Type 0
-HasBit (Leg to) = Unit {0}
-HasBit (Serve order) = order < 64
-HasBit Load = Unit {0}
+use Rattle.duty_plan.specs.Positions.{IsPositionOf}
 
 -- the walk stands for a front of a driver, which keeps the office rules
 pub record StandsFor (week : Week) (driver : Driver) (history : History) (front : Front) (walk : Walk) : Type 0 where
   pub office : KeepsOfficeThrough week history.open_off driver.capacity front
   pub steps : walk.steps ≡ length front
-  pub at : walk.at ≡ at_after week front
-  pub place : walk.place ≡ place_after front
-  pub used : walk.used ≡ used_after week front
-  pub loaded : walk.loaded ≡ loaded_after front
-  pub served : MarksServed walk.served front
+  pub position : IsPositionOf week front walk.position
   pub cents : walk.cents ≡ cents_after week front
   pub hours : Answers 0 (past_of history) (line_after week front) walk.hours
 

@@ -1,6 +1,10 @@
 // What one driver does in a week.
+ghost use Rattle.std.specs.Prelude.{◌≡◌, true};
+ghost use Rattle.minute_line.specs.Marks.{is_working};
+ghost use Rattle.duty_plan.specs.Acts.{mark_of};
+
 use hours_rules::Stay;
-use minute_line::Many;
+use minute_line::{Many, Mark};
 
 /// What a driver does after a stay.
 #[derive(Clone, Copy, PartialEq, Eq, Debug)]
@@ -11,6 +15,19 @@ pub enum Act {
     Serve(u32),
     /// Loads the lorry, at the depot.
     Load,
+}
+
+impl Act {
+    /// What the act's minutes are marked with: Drive for a leg, else Work.
+    pub fn mark(self) -> Mark
+        ensures mark { result ≡ mark_of self }
+        ensures working { is_working result ≡ true }
+    {
+        match self {
+            Act::Leg(_) => Mark::Drive,
+            Act::Serve(_) | Act::Load => Mark::Work,
+        }
+    }
 }
 
 /// A stay, and the act after it.

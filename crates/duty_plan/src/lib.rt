@@ -18,6 +18,7 @@ mod planning;
 #[cfg(test)]
 mod planning_tests;
 mod plans;
+mod positions;
 mod pricing;
 #[cfg(test)]
 mod tests;
@@ -37,4 +38,5 @@ pub use nodes::{Decision, Node, NodeState};
 pub use outcomes::{Limits, Outcome, State};
 pub use planning::{Planner, Pricer};
 pub use plans::{Case, Plan};
+pub use positions::{Position, Taken};
 pub use pricing::{Priced, Prices};

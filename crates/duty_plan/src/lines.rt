@@ -6,7 +6,6 @@ ghost use Rattle.duty_plan.specs.Stints.{stay_stints, stints_of, HasLine};
 use crate::duties::Duty;
 use crate::office::{minutes_at, place_after};
 use crate::plans::Case;
-use crate::walks::mark;
 use hours_rules::Stay;
 use minute_line::{Kind, Line, Many, Mark, Memory, Stint};
 use std::alloc::Global;
@@ -49,7 +48,7 @@ pub fn line_of(alloc: Global, case: &Case, driver: u32, duty: &Duty) -> Result<L
     for step in duty.steps.as_slice() {
         push_stay(&mut stints, &step.stay)?;
         stints.push(Stint {
-            mark: mark(step.act),
+            mark: step.act.mark(),
             minutes: minutes_at(&case.week, place, step.act),
             kind: Kind::Plain,
         })?;

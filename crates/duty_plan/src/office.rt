@@ -1,40 +1,22 @@
 // The office rules at one step, and what its act comes to.
-ghost use Rattle.std.specs.Prelude.{◌≡◌, ◌||◌, ◌==◌, ◌&&◌, ◌%◌, ◌<◌, not, IfSome, is_some};
-ghost use Rattle.minute_line.specs.Marks.{is_rest, is_weekly};
-ghost use Rattle.week_book.specs.Weeks.{road, order_of};
+ghost use Rattle.std.specs.Prelude.{◌≡◌, ◌||◌, ◌==◌, ◌&&◌, ◌+◌, ◌^◌, ◌%◌, ◌<◌, ◌≤◌, bit_or, not, if◌then◌else◌, IfSome, is_some};
+ghost use Rattle.minute_line.specs.Marks.{is_rest, is_daily};
+ghost use Rattle.week_book.specs.Weeks.{IsWeek};
 ghost use Rattle.duty_plan.specs.Acts.{minutes_of, cents_of_act, can_be_done, may_start, used_by, loaded_by, place_by};
-ghost use Rattle.duty_plan.specs.Fronts.{is_plain_length, is_length, has_lengths, may_carry};
+ghost use Rattle.duty_plan.specs.Fronts.{Front, is_plain_length, has_lengths, may_carry, is_new};
+ghost use Rattle.duty_plan.specs.Labels.{bit_of_act, served_after};
+ghost use Rattle.duty_plan.specs.Positions.{HasBit};
 
 use crate::duties::Act;
 use hours_rules::Stay;
 use minute_line::Kind;
-use week_book::{Leg, Week};
+use week_book::{Week, leg};
 
 /// What an act comes to that can be done.
 #[derive(Clone, Copy)]
 pub(crate) struct Deed {
     pub(crate) minutes: u32,
     pub(crate) cents: u64,
-}
-
-/// Whether the leg is the road from one place to another.
-fn joins(leg: &Leg, from: u32, to: u32) -> bool
-    ensures { result ≡ ((leg.now.from == from) && (leg.now.to == to)) }
-{
-    leg.from == from && leg.to == to
-}
-
-/// The road from one place to another.
-fn road_to(week: &Week, from: u32, to: u32) -> Option<Leg>
-    ensures { result ≡ road week.now from to }
-{
-    let legs = week.legs.as_slice();
-    for leg in legs {
-        if joins(leg, from, to) {
-            return Some(*leg);
-        }
-    }
-    None
 }
 
 /// What the act comes to, or None where it can't be done at the place.
@@ -44,7 +26,7 @@ pub(crate) fn deed_of(week: &Week, place: u32, act: Act) -> Option<Deed>
     ensures cents { IfSome result (λ deed. deed.cents ≡ cents_of_act week.now place act) }
 {
     match act {
-        Act::Leg(to) => road_to(week, place, to).map(|leg| Deed {
+        Act::Leg(to) => leg(week, place, to).map(|leg| Deed {
             minutes: leg.minutes,
             cents: leg.cents,
         }),
@@ -68,7 +50,7 @@ pub(crate) fn minutes_at(week: &Week, place: u32, act: Act) -> u32
     ensures { result ≡ minutes_of week.now place act }
 {
     match act {
-        Act::Leg(to) => match road_to(week, place, to) {
+        Act::Leg(to) => match leg(week, place, to) {
             Some(leg) => leg.minutes,
             None => 0,
         },
@@ -127,6 +109,85 @@ pub(crate) fn window(week: &Week, act: Act, start: u64) -> bool
             Some(order) => u64::from(order.opens) <= start && start <= u64::from(order.closes),
             None => false,
         },
+        Act::Leg(_) | Act::Load => true,
+    }
+}
+
+/// The week minute at which an act starts after a stay that begins at a minute.
+pub(crate) fn act_start(at: u32, stay: &Stay) -> u64
+    ensures start { result ≡ at + stay.now.ready + stay.now.off }
+    ensures bound { result < 2 ^ 40 }
+{
+    u64::from(at) + u64::from(stay.ready) + u64::from(stay.off)
+}
+
+/// What a night costs, where the stay is one away from the depot.
+pub(crate) fn night(week: &Week, place: u32, stay: &Stay) -> u64
+    ensures { result ≡ (if is_daily stay.now.kind && not (place == 0) then week.now.night else 0) }
+{
+    if stay.kind.is_daily() && place != 0 {
+        week.night
+    } else {
+        0
+    }
+}
+
+/// The kg served since the last load act, after one more act.
+pub(crate) fn used_after(week: &Week, act: Act, used: u32) -> u32
+    requires week { IsWeek week.now }
+    requires used { used ≤ 100000 }
+    ensures { result ≡ used_by week.now act used }
+{
+    match act {
+        Act::Leg(_) => used,
+        Act::Serve(order) => match week.orders.get(order as usize) {
+            Some(order) => order.kg + used,
+            None => used,
+        },
+        Act::Load => 0,
+    }
+}
+
+/// Whether a load act was done, after one more act.
+pub(crate) fn loaded_after(act: Act, loaded: bool) -> bool
+    ensures { result ≡ loaded_by act loaded }
+{
+    match act {
+        Act::Leg(_) | Act::Serve(_) => loaded,
+        Act::Load => true,
+    }
+}
+
+/// The bits of the orders served, after one more act.
+pub(crate) fn with_bit(act: Act, served: u64) -> u64
+    requires { HasBit act }
+    ensures { result ≡ bit_or served (bit_of_act act) }
+{
+    match act {
+        Act::Serve(order) => served | (1 << order),
+        Act::Leg(_) | Act::Load => served,
+    }
+}
+
+/// Whether the act serves nothing that wasn't loaded, and no more than the lorry carries.
+pub(crate) fn carries(week: &Week, capacity: u32, loaded: bool, used: u32, act: Act) -> bool
+    requires week { IsWeek week.now }
+    requires used { used ≤ 100000 }
+    ensures { result ≡ may_carry week.now capacity loaded used act }
+{
+    match act {
+        Act::Serve(_) => loaded && used_after(week, act, used) <= capacity,
+        Act::Leg(_) | Act::Load => true,
+    }
+}
+
+/// Whether the act serves no order that was served before.
+pub(crate) fn serves_anew(served: u64, act: Act) -> bool
+    requires { HasBit act }
+    ensures { (before : Front) → served ≡ served_after before → result ≡ is_new act before }
+{
+    match act {
+        Act::Serve(order) => (served >> order) & 1 == 0,
         Act::Leg(_) | Act::Load => true,
     }
 }
