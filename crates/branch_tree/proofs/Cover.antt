@@ -21,7 +21,7 @@ use Rattle.duty_plan.specs.Nodes.{IsNode, HasChildren, path_of}
 use Rattle.duty_plan.specs.Trees.{HasRun, IsRight, HasLeaf, IsState}
 use Rattle.price_master.specs.Laws.{DecidesFree}
 use Rattle.branch_tree.specs.Laws.{JustOne}
-use Rattle.price_master.proofs.Duality.{slice_get-lt}
+use Rattle.duty_plan.proofs.Lists.{slice_get-lt}
 use Rattle.branch_tree.proofs.Splits.{splits}
 use Rattle.price_master.proofs.Falls.{stays-inside}
 use Rattle.price_master.proofs.Carried.{get-below}

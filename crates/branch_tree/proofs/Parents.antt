@@ -6,7 +6,7 @@ use Rattle.duty_plan.specs.declared.nodes.Node.{Node}
 use Rattle.std.proofs.lemmas.Bool.Decides.{nat_tests}
 use Rattle.duty_plan.specs.Nodes.{IsNode, HasChildren, path_of, path_in}
 use Rattle.price_master.specs.Laws.{DecidesFree}
-use Rattle.price_master.proofs.Duality.{slice_get-lt}
+use Rattle.duty_plan.proofs.Lists.{slice_get-lt}
 use Rattle.price_master.proofs.Carried.{get-below}
 use Rattle.branch_tree.proofs.Paths.{path-node}
 use Rattle.duty_plan.specs.Nodes.{IsTree}

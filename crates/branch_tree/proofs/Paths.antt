@@ -4,7 +4,7 @@ use Rattle.std.proofs.lemmas.List.{reverse-append, reverse-reverse, length-rever
 use Rattle.std.proofs.lemmas.Bool.Decides.{nat_tests}
 use Rattle.duty_plan.specs.declared.nodes.Node.{Node}
 use Rattle.duty_plan.specs.Nodes.{path_in, path_of, IsNode}
-use Rattle.price_master.proofs.Duality.{slice_get-lt}
+use Rattle.duty_plan.proofs.Lists.{slice_get-lt}
 
 get-last : {X : Type 0} (xs : List X) (x y : X) (n : ℕ) → n ≡ length xs → slice_get (xs ++ x ∷ []) n ≡ Some y → x ≡ y
 get-last [] x y zero e h = cc

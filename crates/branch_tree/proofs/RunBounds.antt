@@ -7,7 +7,8 @@ use Rattle.duty_plan.specs.declared.pricing.Prices.{Prices}
 use Rattle.duty_plan.specs.Duties.{IsLawfulPlan, cost_of_plan}
 use Rattle.duty_plan.specs.Values.{IsPlanInside, IsPrices, lagrangian}
 use Rattle.duty_plan.specs.Rounds.{Round, IsRun, IsFirstAt, values_of}
-use Rattle.price_master.proofs.Duality.{is_below, slice_get-lt}
+use Rattle.duty_plan.proofs.Lists.{slice_get-lt}
+use Rattle.price_master.proofs.Duality.{is_below}
 use Rattle.price_master.proofs.Carried.{get-below}
 use Rattle.price_master.proofs.Whole.{whole-values, next-prices}
 

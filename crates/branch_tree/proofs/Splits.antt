@@ -11,7 +11,8 @@ use Rattle.duty_plan.specs.Fronts.{serves}
 use Rattle.duty_plan.specs.Duties.{front_of, IsLawfulPlan}
 use Rattle.duty_plan.specs.Values.{pair_at, IsPlanInside, ArePairsOf, forced_by, barred_by, is_pair}
 use Rattle.branch_tree.specs.Laws.{JustOne}
-use Rattle.price_master.proofs.Duality.{slice_get-lt, or_parts}
+use Rattle.duty_plan.proofs.Lists.{slice_get-lt}
+use Rattle.price_master.proofs.Duality.{or_parts}
 use Rattle.price_master.proofs.Carried.{served_twice, get-below, or_cases}
 use Rattle.price_master.proofs.Decisions.{is-forced, is-barred, is-free, is-pair, pair-same, other-pair, path-forced, path-barred}
 

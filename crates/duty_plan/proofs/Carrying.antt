@@ -1,17 +1,19 @@
 -- How often duties carry an order.
-use Rattle.std.proofs.Common.{◌≡◌, ◌≢◌, ℕ, zero, suc, ◌+◌, ◌≤◌, ◌<◌, Bool, true, false, not, cond, eqb, ◌||◌, List, [], ◌∷◌, ◌++◌, length, reverse, take, drop, get_or, append_assoc, refl, ap, sym, ◌∙◌, arith}
+use Rattle.std.proofs.Common.{◌≡◌, ◌≢◌, ℕ, zero, suc, ◌+◌, ◌≤◌, ◌<◌, Bool, true, false, not, cond, eqb, ◌||◌, List, [], ◌∷◌, ◌++◌, length, reverse, take, drop, get_or, append_assoc, refl, ap, sym, ◌∙◌, arith, Option, Some, None}
 use mir.Val.{bool_byte}
 use Rattle.std.proofs.lemmas.Bool.Decides.{nat_tests}
+use Rattle.week_book.specs.declared.weeks.Order.{Order}
 use Rattle.week_book.specs.declared.weeks.Week.{Week}
+use Rattle.week_book.specs.Weeks.{order_of}
 use Rattle.duty_plan.specs.declared.duties.Act.{Act}
 use Rattle.duty_plan.specs.declared.duties.Act.TheVariants.{Leg, Serve, Load}
 use Rattle.duty_plan.specs.declared.duties.Step.{Step}
 use Rattle.duty_plan.specs.declared.duties.Duty.{Duty}
-use Rattle.duty_plan.specs.Acts.{serves_order, order_of_act}
-use Rattle.duty_plan.specs.Fronts.{Front, serves, is_new, KeepsOfficeThrough}
+use Rattle.duty_plan.specs.Acts.{serves_order, order_of_act, is_at, can_be_done}
+use Rattle.duty_plan.specs.Fronts.{Front, serves, is_new, place_after, KeepsOfficeThrough}
 use Rattle.duty_plan.specs.Duties.{times, worth, orders_of, carried, front_of, EachOf}
 use Rattle.duty_plan.specs.Sums.{total_below}
-use Rattle.duty_plan.proofs.Lists.{reverse-at, reverse-more, take-more}
+use Rattle.duty_plan.proofs.Lists.{reverse-at, reverse-more, take-more, slice_get-lt}
 use Rattle.duty_plan.proofs.Sums.{times-append, share, total-share, total-mono, worth-append}
 
 -- an act serves the orders that are said to be its own
@@ -66,6 +68,37 @@ pub served-once : (week : Week) (open_off capacity o : ℕ) (front : Front) → 
 served-once week open_off capacity o [] k = omega arith
 served-once week open_off capacity o (step ∷ before) k =
     once-act o step.act before k.0.twice (served-once week open_off capacity o before k.1)
+
+-- an order that is at a place is one of the week
+order-in_week : (week : Week) (o p : ℕ) → is_at (order_of week o) p ≡ true → o < length week.orders
+order-in_week week o p h = by_order (order_of week o) refl h
+  where
+    by_order : (found : Option Order) → order_of week o ≡ found → is_at found p ≡ true → o < length week.orders
+    by_order None e h = cc
+    by_order (Some order) e h = slice_get-lt week.orders o order e
+
+-- an act serves an order of the week
+known-act : (week : Week) (o : ℕ) (act : Act) (before : Front) → can_be_done week (place_after before) act ≡ true →
+    (times o (orders_of before) ≢ 0 → o < length week.orders) → times o (order_of_act act ++ orders_of before) ≢ 0 →
+    o < length week.orders
+known-act week o (Leg to) before r more some = more some
+known-act week o Load before r more some = more some
+known-act week o (Serve order) before r more some = by_test (eqb o order) refl
+  where
+    by_test : (b : Bool) → eqb o order ≡ b → o < length week.orders
+    by_test true e =
+        let same : o ≡ order = grind (arith, nat_tests) in
+        rw same (order-in_week week order (place_after before) r)
+    by_test false e =
+        let t : times o (order ∷ orders_of before) ≡ 0 + times o (orders_of before) = rw e refl in
+        more (λ z. some (omega arith))
+
+-- a lawful front serves orders of the week alone
+pub served-known : (week : Week) (open_off capacity o : ℕ) (front : Front) → KeepsOfficeThrough week open_off capacity front →
+    times o (orders_of front) ≢ 0 → o < length week.orders
+served-known week open_off capacity o [] k some = absurd (some refl)
+served-known week open_off capacity o (step ∷ before) k some =
+    known-act week o step.act before k.0.road (served-known week open_off capacity o before k.1) some
 
 -- ---- as a loop goes
 

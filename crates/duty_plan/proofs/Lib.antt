@@ -18,3 +18,4 @@ pub mod Home
 pub mod OneNode
 pub mod HomePlan
 pub mod OneDriver
+pub mod Trips

@@ -1,5 +1,5 @@
 -- A list, one element after another.
-use Rattle.std.proofs.Common.{◌≡◌, ℕ, suc, ◌+◌, ◌<◌, Bool, true, false, List, [], ◌∷◌, ◌++◌, length, Some, None, get_or, take, drop, find, reverse, refl, ap, sym, ◌∙◌, add-one, take-append-drop}
+use Rattle.std.proofs.Common.{◌≡◌, ℕ, zero, suc, ◌+◌, ◌<◌, Bool, true, false, List, [], ◌∷◌, ◌++◌, length, Some, None, get_or, take, drop, find, reverse, refl, ap, sym, ◌∙◌, add-one, take-append-drop, slice_get, arith}
 use Rattle.std.proofs.Math.Seq.{take-suc, drop-cons}
 use Rattle.std.proofs.lemmas.List.{reverse-append}
 use Rattle.std.proofs.lemmas.List.Folds.{find-append}
@@ -36,3 +36,9 @@ pub find-passed : {X : Type 0} (p : X → Bool) (xs : List X) (i : ℕ) (x d : X
     p x ≡ false → find p (take (i + 1) xs) ≡ None
 find-passed p xs i x d l e n t =
     ap (find p) (take-more xs i x d l e) ∙ (find-append p (take i xs) (x ∷ []) ∙ rw (n, t) refl)
+
+-- an element's number is below the length
+pub slice_get-lt : {X : Type 0} (xs : List X) (k : ℕ) (x : X) → slice_get xs k ≡ Some x → k < length xs
+slice_get-lt [] k x h = cc
+slice_get-lt (y ∷ ys) zero x h = omega arith
+slice_get-lt (y ∷ ys) (suc k) x h = omega (arith, slice_get-lt ys k x h)

@@ -1,5 +1,5 @@
 -- Short lists without repeats, for the week of one driver that the tests plan.
-use Rattle.std.proofs.Common.{◌≡◌, zero, suc, Bool, false, [], ◌∷◌, All, arith, rules}
+use Rattle.std.proofs.Common.{◌≡◌, ◌<◌, ℕ, zero, suc, Bool, false, List, [], ◌∷◌, length, All, arith, rules, Some, slice_get, subst}
 use Rattle.std.specs.List.{IsDistinct}
 
 pub distinct-one : {K : Type 0} (e : K → K → Bool) (x : K) → IsDistinct e (x ∷ [])
@@ -25,3 +25,11 @@ distinct-none e = search rules
 
 pub all-none : {X : Type 0} (P : X → Type 0) → All P []
 all-none P k d lt = absurd (omega (arith, lt))
+
+pub each-one : {X : Type 0} (P : X → Type 0) (x : X) → P x → (n : ℕ) (y : X) → slice_get (x ∷ []) n ≡ Some y → P y
+each-one P x p zero y e = let same : x ≡ y = cc in subst P same p
+each-one P x p (suc n) y e = cc
+
+pub each-two : {X : Type 0} (P : X → Type 0) (x z : X) → P x → P z → (n : ℕ) (y : X) → slice_get (x ∷ z ∷ []) n ≡ Some y → P y
+each-two P x z p q zero y e = let same : x ≡ y = cc in subst P same p
+each-two P x z p q (suc n) y e = each-one P z q n y e

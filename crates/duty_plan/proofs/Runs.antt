@@ -68,7 +68,7 @@ open_run-history h =
       open_run-stints false h.stints.stints nothing h.shape (λ f. refl),
     )
 
-duty-act : (act : Act) → is_duty (mark_of act) ≡ true
+pub duty-act : (act : Act) → is_duty (mark_of act) ≡ true
 duty-act (Leg to) = refl
 duty-act (Serve order) = refl
 duty-act Load = refl

@@ -24,7 +24,7 @@ use Rattle.duty_plan.specs.Fronts.{Front, place_after, line_after, has_lengths, 
 use Rattle.duty_plan.specs.Stints.{ready_stints, off_stints, stay_stints, stints_of, HasLine, is_known}
 use Rattle.duty_plan.proofs.Lists.{reverse-more}
 use Rattle.duty_plan.proofs.WeekLimits.{all-find, all-slice_get}
-use Rattle.duty_plan.proofs.Runs.{both}
+use Rattle.duty_plan.proofs.Runs.{both, duty-act}
 
 -- ---- they are a line
 
@@ -102,11 +102,6 @@ goes-step : (open_off : ℕ) (step : Step) (before : Front) (rest : List Stint) 
     ((after : Bool) → each_follows after rest ≡ true) → GoesAfter before (stay_stints step.stay ++ rest)
 goes-step open_off step [] rest e h = line-first (ltb 0 open_off) step.stay rest e h
 goes-step open_off step (s ∷ before) rest e h = follows-stay step.stay.ready step.stay.off step.stay.kind rest e h
-
-duty-act : (act : Act) → is_duty (mark_of act) ≡ true
-duty-act (Leg to) = refl
-duty-act (Serve order) = refl
-duty-act Load = refl
 
 line-more : (week : Week) (open_off : ℕ) (front : Front) (rest : List Stint) → IsWeek week → HasLine week open_off front → GoesAfter front rest →
     is_line (stints_of week front ++ rest) ≡ true

@@ -22,6 +22,8 @@ mod positions;
 mod pricing;
 #[cfg(test)]
 mod tests;
+#[cfg(test)]
+mod trip_tests;
 mod walks;
 
 pub use checks::{check_duty, check_plan};

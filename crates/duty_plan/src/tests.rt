@@ -1,9 +1,9 @@
 // A week of one driver, by hand. Costs, faults and stints are worked out by hand from the rules: a leg is 60 minutes and
 // 3,000 cents, the fee 2,000, a night 3,000; the order at P opens at 480 and closes at 720.
-ghost use Rattle.std.specs.Prelude.{◌≡◌, ◌<◌, ◌∷◌, [], All, IfOk, length, map};
+ghost use Rattle.std.specs.Prelude.{◌≡◌, ◌<◌, ◌≤◌, ◌∷◌, [], All, IfOk, length, map};
 ghost use Rattle.std.specs.List.{IsDistinct};
 ghost use Rattle.week_book.specs.Weeks.{AreNames, IsLeg, IsDriver, IsOrder, same_ends};
-ghost use Rattle.duty_plan.specs.Duties.{IsCase};
+ghost use Rattle.duty_plan.specs.Duties.{EachOf, IsCase};
 
 use super::*;
 use hours_rules::{Broken, Rule, Stay};
@@ -35,7 +35,8 @@ pub(crate) fn places(alloc: Global) -> Result<Many<Name>, Memory>
 
 /// The legs there and back.
 fn legs(alloc: Global) -> Result<Many<Leg>, Memory>
-    ensures { IfOk result (λ legs. (length legs ≡ 2) × All (IsLeg 2) legs × IsDistinct same_ends legs) }
+    ensures { IfOk result (λ legs. (length legs ≡ 2) × All (IsLeg 2) legs × IsDistinct same_ends legs
+        × EachOf (λ n leg. leg.cents ≡ 3000) legs) }
 {
     let mut legs = Many::new(alloc);
     legs.push(leg(0, 1))?;
@@ -54,7 +55,7 @@ pub(crate) fn no_legs(alloc: Global) -> Many<Leg>
 /// One driver with a lorry of 24,000 kg.
 pub(crate) fn drivers(alloc: Global) -> Result<Many<Driver>, Memory>
     ensures { IfOk result (λ drivers. (length drivers ≡ 1) × All IsDriver drivers
-        × AreNames (map (λ driver. driver.name) drivers)) }
+        × AreNames (map (λ driver. driver.name) drivers) × EachOf (λ n driver. driver.fee ≡ 2000) drivers) }
 {
     let mut drivers = Many::new(alloc);
     drivers.push(Driver {
@@ -66,9 +67,9 @@ pub(crate) fn drivers(alloc: Global) -> Result<Many<Driver>, Memory>
 }
 
 /// One order of 12,000 kg at P.
-fn orders(alloc: Global) -> Result<Many<Order>, Memory>
+pub(crate) fn orders(alloc: Global) -> Result<Many<Order>, Memory>
     ensures { IfOk result (λ orders. (length orders ≡ 1) × All (IsOrder 2) orders
-        × AreNames (map (λ order. order.name) orders)) }
+        × AreNames (map (λ order. order.name) orders) × EachOf (λ n order. order.place ≡ 1) orders) }
 {
     let mut orders = Many::new(alloc);
     orders.push(Order {
@@ -91,9 +92,14 @@ pub(crate) fn no_orders(alloc: Global) -> Many<Order>
     none
 }
 
-/// The case: a history that ends in an open off run of two days.
-fn case(alloc: Global, monday: Monday) -> Result<Case, Memory>
-    ensures { IfOk result (λ case. IsCase case × (length case.week.drivers ≡ 1) × (length case.week.orders ≡ 1)) }
+/// The week with these orders, and a history that ends in an open off run of two days.
+pub(crate) fn case_of(alloc: Global, monday: Monday, orders: Many<Order>) -> Result<Case, Memory>
+    requires few { length orders ≤ 40 }
+    requires orders { All (IsOrder 2) orders }
+    requires names { AreNames (map (λ order. order.name) orders) }
+    ensures case { IfOk result (λ case. IsCase case × (length case.week.drivers ≡ 1) × (case.week.orders ≡ orders)) }
+    ensures roads { IfOk result (λ case. EachOf (λ n leg. leg.cents ≡ 3000) case.week.legs) }
+    ensures fee { IfOk result (λ case. EachOf (λ n driver. driver.fee ≡ 2000) case.week.drivers) }
 {
     let mut past = Many::new(alloc);
     past.push(History {
@@ -113,21 +119,32 @@ fn case(alloc: Global, monday: Monday) -> Result<Case, Memory>
         places: places(alloc)?,
         legs: legs(alloc)?,
         drivers: drivers(alloc)?,
-        orders: orders(alloc)?,
+        orders,
     };
     Ok(Case { week, past })
 }
 
-fn stay(ready: u32, off: u32, kind: Kind) -> Stay {
+/// The week with the one order.
+fn case(alloc: Global, monday: Monday) -> Result<Case, Memory>
+    ensures { IfOk result (λ case. IsCase case × (length case.week.drivers ≡ 1) × (length case.week.orders ≡ 1)) }
+{
+    case_of(alloc, monday, orders(alloc)?)
+}
+
+pub(crate) fn stay(ready: u32, off: u32, kind: Kind) -> Stay
+    ensures { result ≡ record { ready = ready; off = off; kind = kind } }
+{
     Stay { ready, off, kind }
 }
 
-fn step(stay: Stay, act: Act) -> Step {
+pub(crate) fn step(stay: Stay, act: Act) -> Step
+    ensures { result ≡ record { stay = stay; act = act } }
+{
     Step { stay, act }
 }
 
 /// The duty of those steps.
-fn duty(alloc: Global, steps: &[Step]) -> Result<Duty, Memory>
+pub(crate) fn duty(alloc: Global, steps: &[Step]) -> Result<Duty, Memory>
     ensures { IfOk result (λ duty. duty.steps ≡ steps.now) }
 {
     Ok(Duty {

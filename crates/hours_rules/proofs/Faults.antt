@@ -106,7 +106,7 @@ pub fault_stays : (o : ℕ) (past : Past) (b : Broken) (k : ℕ) (mark : Mark) (
 fault_stays o past b zero mark kind week h = h
 fault_stays o past b (suc k) mark kind week h = rw (fault_stays o past b k mark kind week h) refl
 
-stretch-add : (k n : ℕ) (mark : Mark) (kind : Kind) (week : Minutes) → stretch (k + n) mark kind week ≡ stretch k mark kind (stretch n mark kind week)
+pub stretch-add : (k n : ℕ) (mark : Mark) (kind : Kind) (week : Minutes) → stretch (k + n) mark kind week ≡ stretch k mark kind (stretch n mark kind week)
 stretch-add zero n mark kind week = let e : 0 + n ≡ n = omega arith in rw e refl
 stretch-add (suc k) n mark kind week =
     let e : suc k + n ≡ suc (k + n) = omega arith in

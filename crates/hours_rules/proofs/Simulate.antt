@@ -27,7 +27,7 @@ split_fault None (Some r) n h = cc
 split_fault (Some b) next n h = cc
 
 -- no fault at a minute and before it
-judged_parts : (o : ℕ) (p : Past) (m : Minute) (w : Minutes) → o ≤ length w → fault_from o p (m ∷ w) ≡ None →
+pub judged_parts : (o : ℕ) (p : Past) (m : Minute) (w : Minutes) → o ≤ length w → fault_from o p (m ∷ w) ≡ None →
     (fault_from o p w ≡ None) × (failing p m w ≡ None)
 judged_parts o p m w l h =
     let late : ltb (length w) o ≡ false = le-ltb _ _ l in

@@ -18,7 +18,8 @@ use Rattle.duty_plan.proofs.Sums.{worth-append, share, share-none, share-one, to
 use Rattle.price_master.proofs.Duality.{slice_get-lt, uncarried, all-at}
 use Rattle.price_master.proofs.Carried.{served_by, get-below}
 use Rattle.price_master.proofs.Falls.{barred-is}
-use Rattle.price_master.proofs.Once.{served-once, served-known, carried-known, carried-once, listed-known}
+use Rattle.duty_plan.proofs.Carrying.{served-once, served-known}
+use Rattle.price_master.proofs.Once.{carried-known, carried-once, listed-known}
 
 -- the drivers' least values and the prices of what the duties carry are the duties' cost
 duties_same : (case : Case) (prices : Prices) (n : ℕ) (duties : List Duty) (least : List ℤ) → length least ≡ length duties →

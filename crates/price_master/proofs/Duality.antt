@@ -16,23 +16,13 @@ use Rattle.duty_plan.specs.Acts.{serves_order, order_of_act}
 use Rattle.duty_plan.specs.Duties.{times, worth, carried, orders_of, front_of, price_of, cost_of_duties, cost_of_plan, IsLawfulPlan}
 use Rattle.duty_plan.specs.Values.{all_below, charge, or_zero, sum_of, lagrangian, is_barred, barred_for_all, pair_at, price_at, value_after, IsPlanInside, IsPrices, AreLeastValues}
 use Rattle.duty_plan.specs.Sums.{total_below}
+use Rattle.duty_plan.proofs.Carrying.{unserved}
+use Rattle.duty_plan.proofs.Lists.{slice_get-lt}
 use Rattle.duty_plan.proofs.Sums.{worth-append, times-append, share, share-one, total-mono, total-add, total-share_le}
-
-act_times : (o : ℕ) (act : Act) → serves_order o act ≡ false → times o (order_of_act act) ≡ 0
-act_times o (Leg to) h = refl
-act_times o (Serve order) h = rw h refl
-act_times o Load h = refl
 
 pub or_parts : (a b : Bool) → (a || b) ≡ false → (a ≡ false) × (b ≡ false)
 or_parts true b h = cc
 or_parts false b h = (refl, h)
-
--- a front that doesn't serve an order doesn't carry it
-pub unserved : (o : ℕ) (front : Front) → serves o front ≡ false → times o (orders_of front) ≡ 0
-unserved o [] h = refl
-unserved o (step ∷ before) h =
-    let parts = or_parts (serves_order o step.act) (serves o before) h in
-    omega (arith, times-append o (order_of_act step.act) (orders_of before), act_times o step.act parts.0, unserved o before parts.1)
 
 -- an order that no duty serves is not carried
 pub uncarried : (o : ℕ) (duties : List Duty) →
@@ -61,11 +51,6 @@ is-barred : (p : Pair) → is_barred p ≡ true → p ≡ Barred
 is-barred Free h = cc
 is-barred Forced h = cc
 is-barred Barred h = refl
-
-pub slice_get-lt : {X : Type 0} (xs : List X) (k : ℕ) (x : X) → slice_get xs k ≡ Some x → k < length xs
-slice_get-lt [] k x h = cc
-slice_get-lt (y ∷ ys) zero x h = omega arith
-slice_get-lt (y ∷ ys) (suc k) x h = omega (arith, slice_get-lt ys k x h)
 
 -- an order that is Barred for all drivers is carried by none
 barred-uncarried : (case : Case) (pairs : Pairs) (plan : Plan) (o : ℕ) → o < length case.week.orders → IsLawfulPlan case plan →

@@ -1,4 +1,4 @@
--- A lawful duty serves an order at most once, and only orders of the week; so what some duties carry is carried once.
+-- What some lawful duties carry is carried once, and is of the week.
 use Rattle.std.proofs.Common.{◌≡◌, ◌≢◌, not, ℕ, zero, suc, ◌+◌, ◌≤◌, ◌<◌, Bool, true, false, List, [], ◌∷◌, ◌++◌, length, refl, ap, ◌∙◌, arith, eqb, Option, Some, None, slice_get}
 use Rattle.std.proofs.lemmas.Bool.Decides.{nat_tests}
 use Rattle.duty_plan.specs.declared.duties.Act.{Act}
@@ -11,62 +11,10 @@ use Rattle.duty_plan.specs.Fronts.{Front, serves, KeepsOfficeThrough, is_new, pl
 use Rattle.duty_plan.specs.Acts.{is_at, can_be_done, order_of_act}
 use Rattle.duty_plan.specs.Duties.{times, carried, orders_of, front_of}
 use Rattle.duty_plan.proofs.Sums.{times-append}
-use Rattle.price_master.proofs.Duality.{slice_get-lt, unserved, uncarried}
+use Rattle.duty_plan.proofs.Carrying.{unserved}
+use Rattle.price_master.proofs.Duality.{uncarried}
 
-order-in_week : (week : Week) (o p : ℕ) → is_at (order_of week o) p ≡ true → o < length week.orders
-order-in_week week o p h = by_order (order_of week o) refl h
-  where
-    by_order : (found : Option Order) → order_of week o ≡ found → is_at found p ≡ true → o < length week.orders
-    by_order None e h = cc
-    by_order (Some order) e h = slice_get-lt week.orders o order e
-
-once-step : (o : ℕ) (act : Act) (before : Front) → is_new act before ≡ true →
-    times o (orders_of before) ≤ 1 → times o (order_of_act act ++ orders_of before) ≤ 1
-once-step o (Leg to) before h more = more
-once-step o (Serve order) before h more = by_test (eqb o order) refl
-  where
-    by_test : (b : Bool) → eqb o order ≡ b → times o (order ∷ orders_of before) ≤ 1
-    by_test false e = rw e (omega arith)
-    by_test true e =
-        let same : o ≡ order = grind (arith, nat_tests) in
-        let none : serves order before ≡ false = by_not (serves order before) h in
-        let idle : serves o before ≡ false = ap (λ (x : ℕ). serves x before) same ∙ none in
-        rw e (omega (arith, unserved o before idle))
-      where
-        by_not : (b : Bool) → not b ≡ true → b ≡ false
-        by_not true g = cc
-        by_not false g = refl
-once-step o Load before h more = more
-
--- a lawful front serves an order at most once
-pub served-once : (week : Week) (open_off capacity o : ℕ) (front : Front) → KeepsOfficeThrough week open_off capacity front → times o (orders_of front) ≤ 1
-served-once week open_off capacity o [] k = omega arith
-served-once week open_off capacity o (step ∷ before) k =
-    once-step o step.act before k.0.twice (served-once week open_off capacity o before k.1)
-
-known-act : (week : Week) (o : ℕ) (act : Act) (before : Front) → can_be_done week (place_after before) act ≡ true →
-    (times o (orders_of before) ≢ 0 → o < length week.orders) → times o (order_of_act act ++ orders_of before) ≢ 0 →
-    o < length week.orders
-known-act week o (Leg to) before r more some = more some
-known-act week o Load before r more some = more some
-known-act week o (Serve order) before r more some = by_test (eqb o order) refl
-  where
-    by_test : (b : Bool) → eqb o order ≡ b → o < length week.orders
-    by_test true e =
-        let same : o ≡ order = grind (arith, nat_tests) in
-        rw same (order-in_week week order (place_after before) r)
-    by_test false e =
-        let t : times o (order ∷ orders_of before) ≡ 0 + times o (orders_of before) = rw e refl in
-        more (λ z. some (omega arith))
-
--- a lawful front serves orders of the week alone
-pub served-known : (week : Week) (open_off capacity o : ℕ) (front : Front) → KeepsOfficeThrough week open_off capacity front →
-    times o (orders_of front) ≢ 0 → o < length week.orders
-served-known week open_off capacity o [] k some = absurd (some refl)
-served-known week open_off capacity o (step ∷ before) k some =
-    known-act week o step.act before k.0.road (served-known week open_off capacity o before k.1) some
-
--- so what the duties carry are orders of the week
+-- what duties carry that serve orders of the week alone are orders of the week
 pub carried-known : (o n : ℕ) (duties : List Duty) →
     ((k : ℕ) (duty : Duty) → slice_get duties k ≡ Some duty → times o (orders_of (front_of duty)) ≢ 0 → o < n) →
     times o (carried duties) ≢ 0 → o < n

@@ -3,7 +3,7 @@ use Rattle.std.specs.Str.{bytes_eq}
 use Rattle.week_book.specs.declared.weeks.Driver.{Driver}
 use Rattle.week_book.specs.Names.{is_name}
 use Rattle.week_book.specs.Weeks.{IsDriver}
-use Rattle.duty_plan.proofs.OneDriver.{all-one, distinct-one}
+use Rattle.duty_plan.proofs.OneDriver.{all-one, distinct-one, each-one}
 use Rattle.duty_plan.proofs.tests.drivers.Goals as goal
 
 pub returns : goal.returns
@@ -17,4 +17,5 @@ returns c =
         formed = all-one (λ name. is_name name ≡ true) (68 ∷ 49 ∷ []) refl;
         distinct = distinct-one bytes_eq (68 ∷ 49 ∷ []);
       },
+      each-one (λ (d : Driver). d.fee ≡ 2000) driver refl,
     )

@@ -1,0 +1,255 @@
+-- A week whose orders are all at places other than the depot, and whose roads cost 3,000 cents each: what any duty is worth
+-- at least.
+use Rattle.std.proofs.Common.{◌≡◌, ◌≢◌, ◌⊎◌, ℕ, zero, suc, ◌+◌, ◌≤◌, ◌<◌, Bool, true, false, not, cond, eqb, ◌||◌, List, [], ◌∷◌, ◌++◌, refl, ap, sym, ◌∙◌, inl, inr, arith, Option, Some, None, is_some, slice_get, find, pos, negsuc, ◌-ℤ◌, ◌≤ℤ◌, length}
+use Rattle.std.proofs.lemmas.Bool.Decides.{nat_tests}
+use Rattle.std.proofs.lemmas.Int.{ints}
+use Rattle.week_book.specs.declared.weeks.Leg.{Leg as Road}
+use Rattle.week_book.specs.declared.weeks.Order.{Order}
+use Rattle.week_book.specs.declared.weeks.Driver.{Driver}
+use Rattle.week_book.specs.declared.weeks.Week.{Week}
+use Rattle.week_book.specs.Weeks.{road, order_of, driver_of}
+use Rattle.duty_plan.specs.declared.duties.Act.{Act}
+use Rattle.duty_plan.specs.declared.duties.Act.TheVariants.{Leg, Serve, Load}
+use Rattle.duty_plan.specs.declared.duties.Step.{Step}
+use Rattle.duty_plan.specs.declared.duties.Duty.{Duty}
+use Rattle.duty_plan.specs.declared.plans.Case.{Case}
+use Rattle.duty_plan.specs.declared.deciding.Pair.{Pair}
+use Rattle.duty_plan.specs.declared.deciding.Pair.TheVariants.{Free, Forced, Barred}
+use Rattle.duty_plan.specs.declared.deciding.Pairs.{Pairs}
+use Rattle.duty_plan.specs.declared.pricing.Prices.{Prices}
+use Rattle.duty_plan.specs.Acts.{cents_of_act, cents_of_road, can_be_done, is_at, order_of_act, place_by, serves_order}
+use Rattle.duty_plan.specs.Fronts.{Front, KeepsOfficeThrough, place_after, serves}
+use Rattle.duty_plan.specs.Duties.{cents_after, night_of, orders_of, cost_after, fee_or_none, front_of, worth, times, open_off_at, capacity_at, IsLawful}
+use Rattle.duty_plan.specs.Values.{pair_at, price_at, value_after, is_barred, IsChoice, IsLowest, IsInside, IsLeast}
+use Rattle.duty_plan.specs.Sums.{total_below}
+use Rattle.duty_plan.proofs.Sums.{share, total-share, total-mono, total-same, share-none, share-one}
+use Rattle.duty_plan.proofs.Carrying.{served-once, served-known, is-served, unserved}
+
+-- each road costs 3,000 cents, each order is away from the depot, and the first driver's fee is 2,000 cents
+pub record IsTripWeek (week : Week) : Type 0 where
+  pub roads : (from to : ℕ) → is_some (road week from to) ≡ true → cents_of_road (road week from to) ≡ 3000
+  pub away : (order : ℕ) → is_at (order_of week order) 0 ≡ false
+  pub fee : fee_or_none (driver_of week 0) ≡ 2000
+
+-- what the legs of a front cost at least: two legs where it served an order and is home again, one where it is away
+abbrev toll : List ℕ → ℕ → ℕ
+toll [] place = cond (eqb place 0) 0 3000
+toll (order ∷ orders) place = cond (eqb place 0) 6000 3000
+
+toll-few : (orders : List ℕ) (place : ℕ) → toll orders place ≤ 6000
+toll-few [] place = grind arith
+toll-few (order ∷ orders) place = grind arith
+
+-- a leg is worth what it adds to the toll
+toll-leg : (orders : List ℕ) (place to : ℕ) → (orders ≢ [] → 3000 ≤ toll orders place) → toll orders to ≤ 3000 + toll orders place
+toll-leg [] place to h = grind arith
+toll-leg (order ∷ orders) place to h = let known = h (λ e. cc) in grind arith
+
+toll-some : (orders : List ℕ) (place : ℕ) → orders ≢ [] → 3000 ≤ toll orders place
+toll-some [] place h = absurd (h refl)
+toll-some (order ∷ orders) place h = grind arith
+
+-- a service away from the depot changes nothing
+toll-away : (order : ℕ) (orders : List ℕ) (place : ℕ) → eqb place 0 ≡ false → toll (order ∷ orders) place ≡ toll orders place
+toll-away order [] place h = rw h refl
+toll-away order (o ∷ orders) place h = refl
+
+at-away : (week : Week) (order place : ℕ) → is_at (order_of week order) 0 ≡ false → is_at (order_of week order) place ≡ true → (b : Bool) → eqb place 0 ≡ b → b ≡ false
+at-away week order place away here false e = refl
+at-away week order place away here true e =
+    let same : place ≡ 0 = grind (arith, nat_tests) in
+    let there : is_at (order_of week order) 0 ≡ true = ap (λ (x : ℕ). is_at (order_of week order) x) (sym same) ∙ here in cc
+
+toll-act : (week : Week) (place : ℕ) (act : Act) (orders : List ℕ) (cents : ℕ) → IsTripWeek week → can_be_done week place act ≡ true → toll orders place ≤ cents →
+    toll (order_of_act act ++ orders) (place_by act place) ≤ cents_of_act week place act + cents
+toll-act week place (Leg to) orders cents w r l = omega (arith, w.roads place to r, toll-leg orders place to (toll-some orders place))
+toll-act week place Load orders cents w r l = omega arith
+toll-act week place (Serve order) orders cents w r l =
+    omega (arith, toll-away order orders place (at-away week order place (w.away order) r (eqb place 0) refl))
+
+toll-front : (week : Week) (open_off capacity : ℕ) (front : Front) → IsTripWeek week → KeepsOfficeThrough week open_off capacity front →
+    toll (orders_of front) (place_after front) ≤ cents_after week front
+toll-front week open_off capacity [] w k = omega arith
+toll-front week open_off capacity (step ∷ before) w k =
+    omega (
+      arith,
+      toll-act week (place_after before) step.act (orders_of before) (cents_after week before) w k.0.road (toll-front week open_off capacity before w k.1),
+    )
+
+-- each order is paid for at most once
+shared : (f : ℕ → ℕ) (o : ℕ) (xs : List ℕ) (n : ℕ) → times o xs ≡ n → n ≤ 1 → share f o xs ≤ f o
+shared f o xs zero e l = omega (arith, share-none f o xs e)
+shared f o xs (suc zero) e l = omega (arith, share-one f o xs (omega arith))
+shared f o xs (suc (suc n)) e l = absurd (omega arith)
+
+worth-all : (week : Week) (open_off capacity : ℕ) (prices : Prices) (front : Front) → KeepsOfficeThrough week open_off capacity front →
+    worth (price_at prices) (orders_of front) ≤ total_below (price_at prices) (length week.orders)
+worth-all week open_off capacity prices front k =
+    omega (
+      arith,
+      total-share (price_at prices) (length week.orders) (orders_of front) (λ o some. served-known week open_off capacity o front k some),
+      total-mono (λ o. share (price_at prices) o (orders_of front)) (price_at prices) (length week.orders)
+      (λ o l. shared (price_at prices) o (orders_of front) (times o (orders_of front)) refl (served-once week open_off capacity o front k)),
+    )
+
+-- what a front that is home again costs: nothing is carried, or two legs and the fee are paid
+abbrev AtLeast : Case → Front → Type 0
+AtLeast case front = (orders_of front ≡ []) ⊎ (8000 ≤ cost_after case 0 front)
+
+cost-steps : (case : Case) (front : Front) → IsTripWeek case.week → (orders : List ℕ) → orders_of front ≡ orders → place_after front ≡ 0 →
+    toll orders 0 ≤ cents_after case.week front → AtLeast case front
+cost-steps case front w [] e home t = inl e
+cost-steps case [] w (order ∷ orders) e home t = cc
+cost-steps case (step ∷ before) w (order ∷ orders) e home t = inr (omega (arith, w.fee, t))
+
+cost-home : (case : Case) (front : Front) → IsTripWeek case.week → KeepsOfficeThrough case.week (open_off_at case 0) (capacity_at case 0) front →
+    place_after front ≡ 0 → AtLeast case front
+cost-home case front w k home =
+    cost-steps case front w (orders_of front) refl home
+    (omega (
+      arith,
+      ap (λ (p : ℕ). toll (orders_of front) p) home,
+      toll-front case.week (open_off_at case 0) (capacity_at case 0) front w k,
+    ))
+
+-- no duty is worth less than the cheapest trip less all prices, where these pay for the trip
+pub lowest-trip : (case : Case) (pairs : Pairs) (prices : Prices) (total : ℕ) → IsTripWeek case.week → total_below (price_at prices) (length case.week.orders) ≡ total → 8000 ≤ total →
+    IsLowest case 0 pairs prices (pos 8000 -ℤ pos total)
+lowest-trip case pairs prices total w sum enough duty c = by_cost (cost-home case (front_of duty) w c.lawful.front.office c.lawful.home)
+  where
+    by_cost : AtLeast case (front_of duty) → (pos 8000 -ℤ pos total) ≤ℤ value_after case 0 prices (front_of duty)
+    by_cost (inl none) =
+        let free : worth (price_at prices) (orders_of (front_of duty)) ≡ 0 = ap (worth (price_at prices)) none in
+        omega (arith, ints, free)
+    by_cost (inr paid) =
+        let most = worth-all case.week (open_off_at case 0) (capacity_at case 0) prices (front_of duty) c.lawful.front.office in
+        omega (arith, ints, sum, most)
+
+found-cents : (p : Road → Bool) (legs : List Road) (cents : ℕ) → ((n : ℕ) (leg : Road) → slice_get legs n ≡ Some leg → leg.cents ≡ cents) →
+    is_some (find p legs) ≡ true → cents_of_road (find p legs) ≡ cents
+found-cents p [] cents each some = cc
+found-cents p (leg ∷ legs) cents each some = by_test (p leg) refl some (λ h. found-cents p legs cents (λ n l e. each (suc n) l e) h)
+  where
+    by_test : (b : Bool) → p leg ≡ b → is_some (find p (leg ∷ legs)) ≡ true → (is_some (find p legs) ≡ true → cents_of_road (find p legs) ≡ cents) →
+        cents_of_road (find p (leg ∷ legs)) ≡ cents
+    by_test true e h more = rw e (each 0 leg refl)
+    by_test false e h more = rw e (more (rw e at h))
+
+away-all : (orders : List Order) (order : ℕ) → ((n : ℕ) (o : Order) → slice_get orders n ≡ Some o → o.place ≡ 1) → is_at (slice_get orders order) 0 ≡ false
+away-all orders order each = by_found (slice_get orders order) refl
+  where
+    by_found : (found : Option Order) → slice_get orders order ≡ found → is_at found 0 ≡ false
+    by_found None e = refl
+    by_found (Some o) e = let p : o.place ≡ 1 = each order o e in rw p refl
+
+fee-first : (drivers : List Driver) → length drivers ≡ 1 → ((n : ℕ) (d : Driver) → slice_get drivers n ≡ Some d → d.fee ≡ 2000) → fee_or_none (slice_get drivers 0) ≡ 2000
+fee-first [] l each = absurd (omega arith)
+fee-first (d ∷ drivers) l each = each 0 d refl
+
+pub trip-week : (week : Week) → length week.drivers ≡ 1 → ((n : ℕ) (leg : Road) → slice_get week.legs n ≡ Some leg → leg.cents ≡ 3000) →
+    ((n : ℕ) (d : Driver) → slice_get week.drivers n ≡ Some d → d.fee ≡ 2000) →
+    ((n : ℕ) (o : Order) → slice_get week.orders n ≡ Some o → o.place ≡ 1) → IsTripWeek week
+trip-week week one legs drivers orders = record {
+  roads = λ from to some. found-cents _ week.legs 3000 legs some;
+  away = λ order. away-all week.orders order orders;
+  fee = fee-first week.drivers one drivers;
+}
+
+-- a lawful trip of 8,000 cents that serves every order is a least duty wherever it is inside
+pub least-trip : (case : Case) (duty : Duty) (pairs : Pairs) (prices : Prices) (total : ℕ) → IsTripWeek case.week → 8000 ≤ total →
+    total_below (price_at prices) (length case.week.orders) ≡ total → IsLawful case 0 duty → cost_after case 0 (front_of duty) ≡ 8000 →
+    worth (price_at prices) (orders_of (front_of duty)) ≡ total → IsInside case.week pairs 0 (front_of duty) →
+    IsLeast case 0 pairs prices (pos 8000 -ℤ pos total) duty
+least-trip case duty pairs prices total w enough sum lawful cost worth_all inside = record {
+  choice = record { lawful = lawful; inside = inside };
+  has_value = omega (arith, ints, cost, worth_all);
+  lowest = lowest-trip case pairs prices total w sum enough;
+}
+
+-- what a duty is worth that serves each order of the week
+pub worth-served : (case : Case) (duty : Duty) (prices : Prices) → IsLawful case 0 duty →
+    ((o : ℕ) → o < length case.week.orders → serves o (front_of duty) ≡ true) →
+    worth (price_at prices) (orders_of (front_of duty)) ≡ total_below (price_at prices) (length case.week.orders)
+worth-served case duty prices lawful all =
+    let office = lawful.front.office in
+    sym (total-share (price_at prices) (length case.week.orders) (orders_of (front_of duty)) (λ o some. served-known case.week _ _ o (front_of duty) office some))
+    ∙ total-same (λ o. share (price_at prices) o (orders_of (front_of duty))) (price_at prices) (length case.week.orders)
+    (λ o l. share-one (price_at prices) o (orders_of (front_of duty)) (once o l))
+  where
+    once : (o : ℕ) → o < length case.week.orders → times o (orders_of (front_of duty)) ≡ 1
+    once o l = omega (arith, served-once case.week _ _ o (front_of duty) lawful.front.office, is-served o (front_of duty) (all o l))
+
+below-one : (o : ℕ) → o < 1 → o ≡ 0
+below-one o l = omega arith
+
+-- where the one order is Barred, the empty duty is the least
+pub least-barred : (case : Case) → length case.week.orders ≡ 1 →
+    IsLeast case 0 (record { orders = 1; cells = Barred ∷ [] }) (record { cents = 9000 ∷ [] }) (pos 0) (record { steps = [] })
+least-barred case one = record {
+  choice = record {
+    lawful = record { front = record { office = tt; hours = refl }; home = refl };
+    inside = record {
+      forced = λ o l h. let same = below-one o (omega (arith, one, l)) in let barred : Barred ≡ Forced = rw same at h in cc;
+      barred = λ o l h. refl;
+    };
+  };
+  has_value = refl;
+  lowest = λ duty c.
+      let cents : Prices = record { cents = 9000 ∷ [] } in
+      let front = front_of duty in
+      let idle : serves 0 front ≡ false = c.inside.barred 0 (omega (arith, one)) refl in
+      let sum : total_below (λ o. share (price_at cents) o (orders_of front)) (length case.week.orders) ≡ share (price_at cents) 0 (orders_of front) + 0 =
+      ap (total_below (λ o. share (price_at cents) o (orders_of front))) one in
+      let free : worth (price_at cents) (orders_of front) ≡ 0 =
+      omega (
+        arith,
+        sum,
+        total-share (price_at cents) (length case.week.orders) (orders_of front) (λ o some. served-known case.week _ _ o front c.lawful.front.office some),
+        share-none (price_at cents) 0 (orders_of front) (unserved 0 front idle),
+      ) in
+      omega (arith, ints, free);
+}
+
+-- a trip with the one order is the least duty, unless the order is Barred
+pub one-trip : (case : Case) (duty : Duty) (pair : Pair) (cents : ℕ) → IsTripWeek case.week → length case.week.orders ≡ 1 → is_barred pair ≡ false →
+    IsLawful case 0 duty → cents ≡ 8000 → cents ≡ cost_after case 0 (front_of duty) → serves 0 (front_of duty) ≡ true →
+    IsLeast case 0 (record { orders = 1; cells = pair ∷ [] }) (record { cents = 9000 ∷ [] }) (negsuc 999) duty
+one-trip case duty pair cents w one free lawful paid cost serve =
+    let prices : Prices = record { cents = 9000 ∷ [] } in
+    let sum : total_below (price_at prices) (length case.week.orders) ≡ 9000 = ap (total_below (price_at prices)) one in
+    let all : (o : ℕ) → o < length case.week.orders → serves o (front_of duty) ≡ true =
+    λ o l. let same = below-one o (omega (arith, one, l)) in rw same serve in
+    least-trip case duty (record { orders = 1; cells = pair ∷ [] }) prices 9000 w (omega arith) sum lawful (omega (arith, paid, cost))
+    (worth-served case duty prices lawful all ∙ sum)
+    (record {
+      forced = λ o l h. all o l;
+      barred = λ o l h. let same = below-one o (omega (arith, one, l)) in
+          let is : pair ≡ Barred = rw same at h in
+          let yes : is_barred pair ≡ true = rw is refl in
+          cc;
+    })
+
+below-two : (o : ℕ) → o < 2 → (o ≡ 0) ⊎ (o ≡ 1)
+below-two zero l = inl refl
+below-two (suc zero) l = inr refl
+below-two (suc (suc o)) l = absurd (omega arith)
+
+-- a trip with both orders is the least duty where both are Free
+pub two-trip : (case : Case) (duty : Duty) (cents : ℕ) → IsTripWeek case.week → length case.week.orders ≡ 2 →
+    IsLawful case 0 duty → cents ≡ 8000 → cents ≡ cost_after case 0 (front_of duty) → serves 0 (front_of duty) ≡ true → serves 1 (front_of duty) ≡ true →
+    IsLeast case 0 (record { orders = 2; cells = Free ∷ Free ∷ [] }) (record { cents = 9000 ∷ 4500 ∷ [] }) (negsuc 5499) duty
+two-trip case duty cents w two lawful paid cost serve_a serve_b =
+    let prices : Prices = record { cents = 9000 ∷ 4500 ∷ [] } in
+    let sum : total_below (price_at prices) (length case.week.orders) ≡ 13500 = ap (total_below (price_at prices)) two in
+    let all : (o : ℕ) → o < length case.week.orders → serves o (front_of duty) ≡ true = λ o l. by_order o (below-two o (omega (arith, two, l))) in
+    least-trip case duty (record { orders = 2; cells = Free ∷ Free ∷ [] }) prices 13500 w (omega arith) sum lawful (omega (arith, paid, cost))
+    (worth-served case duty prices lawful all ∙ sum)
+    (record { forced = λ o l h. all o l; barred = λ o l h. by_cell o (below-two o (omega (arith, two, l))) h })
+  where
+    by_order : (o : ℕ) → (o ≡ 0) ⊎ (o ≡ 1) → serves o (front_of duty) ≡ true
+    by_order o (inl e) = rw e serve_a
+    by_order o (inr e) = rw e serve_b
+
+    by_cell : (o : ℕ) → (o ≡ 0) ⊎ (o ≡ 1) → pair_at (record { orders = 2; cells = Free ∷ Free ∷ [] }) 0 o ≡ Barred → serves o (front_of duty) ≡ false
+    by_cell o (inl e) h = let barred : Free ≡ Barred = rw e at h in cc
+    by_cell o (inr e) h = let barred : Free ≡ Barred = rw e at h in cc

@@ -1,0 +1,6 @@
+use Rattle.std.proofs.Common.{◌≡◌, refl}
+use Rattle.duty_plan.proofs.Trips.{least-barred}
+use Rattle.duty_plan.proofs.trip_tests.barred_by_hand.Goals as goal
+
+pub returns-clause-least : goal.returns-clause-least
+returns-clause-least c = least-barred
