@@ -1,0 +1,14 @@
+pub mod DelayedLines
+pub mod Behind
+pub mod CatchingUp
+pub mod Costs
+pub mod Simulating
+pub mod ShiftedClocks
+pub mod ShiftedRooms
+pub mod ShiftedLines
+pub mod ShiftedSteps
+pub mod ShiftedOffice
+pub mod ShiftedFronts
+pub mod Shifting
+pub mod Among
+pub mod Filed
