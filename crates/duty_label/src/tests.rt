@@ -1,1 +1,378 @@
-// Tests.
+// A week of one driver, by hand: a leg is 60 minutes and 3,000 cents, the fee 2,000, a load 15 minutes; the order at P takes 30
+// minutes, opens at 480 and closes at 720, and its price is 9,000. The history is an open off run of 2,880 minutes. What a
+// label is expected to say, and each fault, are worked out by hand from that.
+ghost use Rattle.std.specs.Prelude.{◌≡◌, ◌<◌, ◌∷◌, [], All, IfOk, length, map, slice_get};
+ghost use Rattle.std.specs.List.{IsDistinct};
+ghost use Rattle.week_book.specs.Weeks.{AreNames, IsLeg, IsDriver, IsOrder, same_ends};
+ghost use Rattle.duty_plan.specs.Duties.{IsCase, price_of, price_or_none};
+ghost use Rattle.duty_plan.specs.Values.{IsPairs, IsPrices};
+ghost use Rattle.duty_label.specs.Children.{IsLabelOfSome};
+
+use super::*;
+use duty_plan::{Act, Case, DutyFault, Pair, Pairs, Prices, Step};
+use hours_rules::{Broken, Clock, Rule, Stay};
+use minute_line::{History, Kind, Line, Many, Memory, Monday, Name, read_monday};
+use std::alloc::Global;
+use week_book::{Driver, Leg, Order, Week};
+
+/// The depot HUB and the place P.
+fn places(alloc: Global) -> Result<Many<Name>, Memory>
+    ensures { IfOk result (λ places. (length places ≡ 2) × AreNames places) }
+{
+    let mut places = Many::new(alloc);
+    places.push(Many::from_slice(alloc, b"HUB")?)?;
+    places.push(Many::from_slice(alloc, b"P")?)?;
+    Ok(places)
+}
+
+/// The road between HUB and P, either way.
+fn leg(from: u32, to: u32) -> Leg
+    ensures { result ≡ record { from = from; to = to; minutes = 60; cents = 3000 } }
+{
+    Leg {
+        from,
+        to,
+        minutes: 60,
+        cents: 3000,
+    }
+}
+
+/// The legs there and back.
+fn legs(alloc: Global) -> Result<Many<Leg>, Memory>
+    ensures { IfOk result (λ legs. (length legs ≡ 2) × All (IsLeg 2) legs × IsDistinct same_ends legs) }
+{
+    let mut legs = Many::new(alloc);
+    legs.push(leg(0, 1))?;
+    legs.push(leg(1, 0))?;
+    Ok(legs)
+}
+
+/// One driver with a lorry of 24,000 kg.
+fn drivers(alloc: Global) -> Result<Many<Driver>, Memory>
+    ensures { IfOk result (λ drivers. (length drivers ≡ 1) × All IsDriver drivers
+        × AreNames (map (λ driver. driver.name) drivers)) }
+{
+    let mut drivers = Many::new(alloc);
+    drivers.push(Driver {
+        name: Many::from_slice(alloc, b"D1")?,
+        capacity: 24_000,
+        fee: 2000,
+    })?;
+    Ok(drivers)
+}
+
+/// One order of 12,000 kg at P.
+fn orders(alloc: Global) -> Result<Many<Order>, Memory>
+    ensures { IfOk result (λ orders. (length orders ≡ 1) × All (IsOrder 2) orders
+        × AreNames (map (λ order. order.name) orders) × (price_or_none (slice_get orders 0) ≡ 9000)) }
+{
+    let mut orders = Many::new(alloc);
+    orders.push(Order {
+        name: Many::from_slice(alloc, b"A")?,
+        place: 1,
+        opens: 480,
+        closes: 720,
+        service: 30,
+        kg: 12_000,
+        price: 9000,
+    })?;
+    Ok(orders)
+}
+
+/// The case: a history that ends in an open off run of two days.
+fn case(alloc: Global, monday: Monday) -> Result<Case, Memory>
+    ensures { IfOk result (λ case. IsCase case × (length case.week.drivers ≡ 1) × (length case.week.orders ≡ 1)
+        × (price_of case.week 0 ≡ 9000)) }
+{
+    let mut past = Many::new(alloc);
+    past.push(History {
+        prev_weekly: 2700,
+        stints: Line {
+            stints: Many::new(alloc),
+        },
+        open_off: 2880,
+        prev_drive: 0,
+        work16: [0; 16],
+    })?;
+    let week = Week {
+        monday,
+        load: 15,
+        night: 3000,
+        grid: 15,
+        places: places(alloc)?,
+        legs: legs(alloc)?,
+        drivers: drivers(alloc)?,
+        orders: orders(alloc)?,
+    };
+    Ok(Case { week, past })
+}
+
+/// What is decided of the driver and the order.
+fn pairs(alloc: Global, pair: Pair) -> Result<Pairs, Memory>
+    ensures { IfOk result (λ pairs. (pairs.orders ≡ 1) × (length pairs.cells ≡ 1)) }
+{
+    Ok(Pairs {
+        orders: 1,
+        cells: Many::from_slice(alloc, &[pair])?,
+    })
+}
+
+/// The order's price.
+fn prices(alloc: Global) -> Result<Prices, Memory>
+    ensures { IfOk result (λ prices. prices.cents ≡ 9000 ∷ []) }
+{
+    Ok(Prices {
+        cents: Many::from_slice(alloc, &[9000])?,
+    })
+}
+
+/// A case with what is decided, and prices.
+#[derive(Drop)]
+struct Desk {
+    case: Case,
+    pairs: Pairs,
+    prices: Prices,
+}
+
+/// The driver's desk, where that is decided of the order.
+fn prepared(alloc: Global, monday: Monday, pair: Pair) -> Result<Desk, Memory>
+    ensures { IfOk result (λ desk. IsCase desk.case × (0 < length desk.case.week.drivers) × IsPairs desk.case.week desk.pairs
+        × IsPrices desk.case.week desk.prices) }
+{
+    Ok(Desk {
+        case: case(alloc, monday)?,
+        pairs: pairs(alloc, pair)?,
+        prices: prices(alloc)?,
+    })
+}
+
+/// The label of those steps, or why the first that makes no child doesn't.
+fn label_of(desk: &Desk, steps: &[Step]) -> Result<Label, NoChild>
+    requires case { IsCase desk.now.case }
+    requires driver { 0 < length desk.now.case.week.drivers }
+    requires pairs { IsPairs desk.now.case.week desk.now.pairs }
+    requires prices { IsPrices desk.now.case.week desk.now.prices }
+    ensures { IfOk result (λ label. IsLabelOfSome desk.now.case 0 desk.now.prices label) }
+{
+    let mut label = first(&desk.case, 0);
+    for step in steps {
+        match child(
+            &desk.case,
+            0,
+            &desk.pairs,
+            &desk.prices,
+            &label,
+            step.stay,
+            step.act,
+        ) {
+            Ok(next) => label = next,
+            Err(refusal) => return Err(refusal),
+        }
+    }
+    Ok(label)
+}
+
+/// The clock at a minute of the day after the load, with so many Drive and working minutes since then.
+fn driven(loaded: Clock, at: u32, drive: u32, work: u32) -> Clock {
+    Clock {
+        at,
+        period: drive,
+        drive_day: drive,
+        drive_week: drive,
+        work_run: work,
+        work_day: work,
+        work_week: work,
+        ..loaded
+    }
+}
+
+fn step(ready: u32, off: u32, kind: Kind, act: Act) -> Step {
+    Step {
+        stay: Stay { ready, off, kind },
+        act,
+    }
+}
+
+/// An act right after the one before it.
+fn next(act: Act) -> Step {
+    step(0, 0, Kind::Plain, act)
+}
+
+// By hand: the open run of 2,880 joins the stay's 405 Off minutes and ends as a weekly rest of 3,285 at minute 405, where the
+// day and the time since the weekly rest begin. The load is Work from 405 to 420 and makes the fee due; each leg is 60 Drive
+// minutes and 3,000 cents; the service is Work from 480 to 510, takes 12,000 kg and is paid 9,000. Nothing pauses.
+#[test]
+fn a_trip_has_these_labels(rt: HostRuntime) {
+    let monday = read_monday("2026-03-02").expect(&rt, "a Monday");
+    let desk = prepared(rt.alloc(), monday, Pair::Free).expect(&rt, "memory");
+    let load = step(0, 405, Kind::Weekly, Act::Load);
+    let out = next(Act::Leg(1));
+    let serve = next(Act::Serve(0));
+    let home = next(Act::Leg(0));
+    let before = Clock {
+        at: 0,
+        off: 2880,
+        day_from: -2880,
+        rest_from: -2880,
+        period: 0,
+        drive_day: 0,
+        long_days: 0,
+        reduced: 0,
+        prev_weekly: 2700,
+        work_run: 0,
+        work_day: 0,
+        pause_day: 0,
+        drive_week: 0,
+        work_week: 0,
+        prev_drive: 0,
+        work_before: 0,
+        half: false,
+        split: false,
+    };
+    let loaded = Clock {
+        at: 420,
+        off: 0,
+        day_from: 405,
+        rest_from: 405,
+        prev_weekly: 3285,
+        work_run: 15,
+        work_day: 15,
+        work_week: 15,
+        ..before
+    };
+    // the open run alone is the weekly rest, and the load is Work from 0 to 15
+    let early = Clock {
+        at: 15,
+        day_from: 0,
+        rest_from: 0,
+        prev_weekly: 2880,
+        ..loaded
+    };
+    // the steps, the clock, the place, the orders as bits, the kg, a load act, a step, the value
+    let rows: [(&[Step], Clock, u32, u64, u32, bool, bool, i64); 6] = [
+        (&[], before, 0, 0, 0, false, false, 0),
+        (
+            &[step(0, 0, Kind::Weekly, Act::Load)],
+            early,
+            0,
+            0,
+            0,
+            true,
+            true,
+            2000,
+        ),
+        (&[load], loaded, 0, 0, 0, true, true, 2000),
+        (
+            &[load, out],
+            driven(loaded, 480, 60, 75),
+            1,
+            0,
+            0,
+            true,
+            true,
+            5000,
+        ),
+        (
+            &[load, out, serve],
+            driven(loaded, 510, 60, 105),
+            1,
+            1,
+            12_000,
+            true,
+            true,
+            -4000,
+        ),
+        (
+            &[load, out, serve, home],
+            driven(loaded, 570, 120, 165),
+            0,
+            1,
+            12_000,
+            true,
+            true,
+            -1000,
+        ),
+    ];
+    for (steps, clock, place, served, used, loaded, fee_paid, value) in rows {
+        let expected = Label {
+            clock,
+            place,
+            served,
+            used,
+            loaded,
+            fee_paid,
+            value,
+        };
+        let found = label_of(&desk, steps);
+        assert!(rt; found == Ok(expected), "{found:?}");
+    }
+}
+
+// By hand: six legs in a row have the 271st Drive minute at 660 + 30 = 690; a service at 480 + 241 = 721 is late by a minute.
+#[test]
+fn each_fault_has_a_step(rt: HostRuntime) {
+    let monday = read_monday("2026-03-02").expect(&rt, "a Monday");
+    let desk = prepared(rt.alloc(), monday, Pair::Free).expect(&rt, "memory");
+    let load = step(0, 405, Kind::Weekly, Act::Load);
+    let out = next(Act::Leg(1));
+    let serve = next(Act::Serve(0));
+    let home = next(Act::Leg(0));
+    let rows: [(&[Step], DutyFault); 10] = [
+        (&[next(Act::Leg(2))], DutyFault::Road(0)),
+        (
+            &[load, step(0, 16, Kind::Plain, Act::Leg(1))],
+            DutyFault::Stay(0),
+        ),
+        (
+            &[load, out, step(0, 2700, Kind::Weekly, Act::Leg(0))],
+            DutyFault::Away(0),
+        ),
+        (&[step(0, 406, Kind::Weekly, Act::Load)], DutyFault::Grid(0)),
+        (
+            &[step(0, 10_080, Kind::Weekly, Act::Load)],
+            DutyFault::Late(0),
+        ),
+        (
+            &[load, out, step(241, 0, Kind::Plain, Act::Serve(0))],
+            DutyFault::Window(0),
+        ),
+        (
+            &[step(0, 420, Kind::Weekly, Act::Leg(1)), serve],
+            DutyFault::Load(0),
+        ),
+        (&[load, out, serve, serve], DutyFault::Twice(0)),
+        (&[next(Act::Serve(1))], DutyFault::Road(0)),
+        (
+            &[load, out, home, out, home, out],
+            DutyFault::Rule(Broken {
+                rule: Rule::H1,
+                minute: 690,
+            }),
+        ),
+    ];
+    for (steps, fault) in rows {
+        let found = label_of(&desk, steps);
+        assert!(rt; found == Err(NoChild::Fault(fault)), "{fault:?}: {found:?}");
+    }
+}
+
+// A service that is no fault, one at HUB that is (no road leads there), and numbers past the week's one order.
+#[test]
+fn barred_comes_first(rt: HostRuntime) {
+    let monday = read_monday("2026-03-02").expect(&rt, "a Monday");
+    let desk = prepared(rt.alloc(), monday, Pair::Barred).expect(&rt, "memory");
+    let load = step(0, 405, Kind::Weekly, Act::Load);
+    let serve = next(Act::Serve(0));
+    let rows: [(&[Step], NoChild); 3] = [
+        (&[load, next(Act::Leg(1)), serve], NoChild::Barred),
+        (&[load, serve], NoChild::Barred),
+        (
+            &[load, next(Act::Serve(1))],
+            NoChild::Fault(DutyFault::Road(0)),
+        ),
+    ];
+    for (steps, refusal) in rows {
+        let found = label_of(&desk, steps);
+        assert!(rt; found == Err(refusal), "{refusal:?}: {found:?}");
+    }
+}

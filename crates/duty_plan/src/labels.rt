@@ -5,7 +5,7 @@ use hours_rules::Clock;
 use std::mem::size_of;
 
 /// What a pricing knows of a driver's steps so far.
-#[derive(Clone, Copy, Debug)]
+#[derive(Clone, Copy, PartialEq, Eq, Debug)]
 pub struct Label {
     /// The clock that stands for the history and the minutes of the steps.
     pub clock: Clock,
