@@ -1,4 +1,5 @@
-// When one label is better than another. Each test joins its comparisons with `&`, so that it has no branch.
+// When one label is better than another. The comparisons are joined with `&`, so that there is no branch: which of them
+// fails is hard to foretell, and a branch that is foretold wrongly costs more than all the comparisons (bench/order).
 ghost use Rattle.std.specs.Prelude.{◌≡◌, ◌≤◌, ◌≤ℤ◌, ◌↔◌, true, ℕ};
 ghost use Rattle.std.specs.Int.{bit_at};
 ghost use Rattle.hours_rules.specs.Order.{IsBetterClock};
@@ -11,7 +12,7 @@ use hours_rules::Clock;
 const REGULAR_WEEKLY: u32 = 2_700;
 
 /// Whether a label is where another is, no later, no dearer, and with a first part of a break where the other has one
-/// and only there. Most labels that don't better another fail here.
+/// and only there.
 #[inline]
 fn is_no_later_or_dearer(a: &Label, b: &Label) -> bool
     ensures { result ≡ true ↔ (a.now.place ≡ b.now.place) × (a.now.clock.at ≤ b.now.clock.at)
@@ -84,9 +85,9 @@ pub fn better(a: &Label, b: &Label, forced: u64) -> bool
     ensures { result ≡ true ↔ IsBetter a.now b.now forced }
 {
     is_no_later_or_dearer(a, b)
-        && serves_among(a.served, b.served, forced)
-        && has_as_much_room(a, b)
-            & began_as_late(&a.clock, &b.clock)
-            & did_as_little(&a.clock, &b.clock)
-            & rested_as_well(&a.clock, &b.clock)
+        & serves_among(a.served, b.served, forced)
+        & has_as_much_room(a, b)
+        & began_as_late(&a.clock, &b.clock)
+        & did_as_little(&a.clock, &b.clock)
+        & rested_as_well(&a.clock, &b.clock)
 }
