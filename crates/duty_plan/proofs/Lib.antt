@@ -19,3 +19,4 @@ pub mod OneNode
 pub mod HomePlan
 pub mod OneDriver
 pub mod Trips
+pub mod LeastTrips

@@ -1,5 +1,5 @@
 -- Short lists without repeats, for the week of one driver that the tests plan.
-use Rattle.std.proofs.Common.{◌≡◌, ◌<◌, ℕ, zero, suc, Bool, false, List, [], ◌∷◌, length, All, arith, rules, Some, slice_get, subst}
+use Rattle.std.proofs.Common.{◌≡◌, ℕ, zero, suc, Bool, false, [], ◌∷◌, All, arith, rules, Some, slice_get, subst}
 use Rattle.std.specs.List.{IsDistinct}
 
 pub distinct-one : {K : Type 0} (e : K → K → Bool) (x : K) → IsDistinct e (x ∷ [])

@@ -1,6 +1,6 @@
 -- A week whose orders are all at places other than the depot, and whose roads cost 3,000 cents each: what any duty is worth
 -- at least.
-use Rattle.std.proofs.Common.{◌≡◌, ◌≢◌, ◌⊎◌, ℕ, zero, suc, ◌+◌, ◌≤◌, ◌<◌, Bool, true, false, not, cond, eqb, ◌||◌, List, [], ◌∷◌, ◌++◌, refl, ap, sym, ◌∙◌, inl, inr, arith, Option, Some, None, is_some, slice_get, find, pos, negsuc, ◌-ℤ◌, ◌≤ℤ◌, length}
+use Rattle.std.proofs.Common.{◌≡◌, ◌≢◌, ◌⊎◌, ℕ, zero, suc, ◌+◌, ◌≤◌, Bool, true, false, cond, eqb, List, [], ◌∷◌, ◌++◌, refl, ap, sym, ◌∙◌, inl, inr, arith, Option, Some, None, is_some, slice_get, find, pos, ◌-ℤ◌, ◌≤ℤ◌, length}
 use Rattle.std.proofs.lemmas.Bool.Decides.{nat_tests}
 use Rattle.std.proofs.lemmas.Int.{ints}
 use Rattle.week_book.specs.declared.weeks.Leg.{Leg as Road}
@@ -10,20 +10,16 @@ use Rattle.week_book.specs.declared.weeks.Week.{Week}
 use Rattle.week_book.specs.Weeks.{road, order_of, driver_of}
 use Rattle.duty_plan.specs.declared.duties.Act.{Act}
 use Rattle.duty_plan.specs.declared.duties.Act.TheVariants.{Leg, Serve, Load}
-use Rattle.duty_plan.specs.declared.duties.Step.{Step}
-use Rattle.duty_plan.specs.declared.duties.Duty.{Duty}
 use Rattle.duty_plan.specs.declared.plans.Case.{Case}
-use Rattle.duty_plan.specs.declared.deciding.Pair.{Pair}
-use Rattle.duty_plan.specs.declared.deciding.Pair.TheVariants.{Free, Forced, Barred}
 use Rattle.duty_plan.specs.declared.deciding.Pairs.{Pairs}
 use Rattle.duty_plan.specs.declared.pricing.Prices.{Prices}
-use Rattle.duty_plan.specs.Acts.{cents_of_act, cents_of_road, can_be_done, is_at, order_of_act, place_by, serves_order}
-use Rattle.duty_plan.specs.Fronts.{Front, KeepsOfficeThrough, place_after, serves}
-use Rattle.duty_plan.specs.Duties.{cents_after, night_of, orders_of, cost_after, fee_or_none, front_of, worth, times, open_off_at, capacity_at, IsLawful}
-use Rattle.duty_plan.specs.Values.{pair_at, price_at, value_after, is_barred, IsChoice, IsLowest, IsInside, IsLeast}
+use Rattle.duty_plan.specs.Acts.{cents_of_act, cents_of_road, can_be_done, is_at, order_of_act, place_by}
+use Rattle.duty_plan.specs.Fronts.{Front, KeepsOfficeThrough, place_after}
+use Rattle.duty_plan.specs.Duties.{cents_after, orders_of, cost_after, fee_or_none, front_of, worth, times, open_off_at, capacity_at}
+use Rattle.duty_plan.specs.Values.{price_at, value_after, IsLowest}
 use Rattle.duty_plan.specs.Sums.{total_below}
-use Rattle.duty_plan.proofs.Sums.{share, total-share, total-mono, total-same, share-none, share-one}
-use Rattle.duty_plan.proofs.Carrying.{served-once, served-known, is-served, unserved}
+use Rattle.duty_plan.proofs.Sums.{share, total-share, total-mono, share-none, share-one}
+use Rattle.duty_plan.proofs.Carrying.{served-once, served-known}
 
 -- each road costs 3,000 cents, each order is away from the depot, and the first driver's fee is 2,000 cents
 pub record IsTripWeek (week : Week) : Type 0 where
@@ -35,10 +31,6 @@ pub record IsTripWeek (week : Week) : Type 0 where
 abbrev toll : List ℕ → ℕ → ℕ
 toll [] place = cond (eqb place 0) 0 3000
 toll (order ∷ orders) place = cond (eqb place 0) 6000 3000
-
-toll-few : (orders : List ℕ) (place : ℕ) → toll orders place ≤ 6000
-toll-few [] place = grind arith
-toll-few (order ∷ orders) place = grind arith
 
 -- a leg is worth what it adds to the toll
 toll-leg : (orders : List ℕ) (place to : ℕ) → (orders ≢ [] → 3000 ≤ toll orders place) → toll orders to ≤ 3000 + toll orders place
@@ -77,7 +69,7 @@ toll-front week open_off capacity (step ∷ before) w k =
     )
 
 -- each order is paid for at most once
-shared : (f : ℕ → ℕ) (o : ℕ) (xs : List ℕ) (n : ℕ) → times o xs ≡ n → n ≤ 1 → share f o xs ≤ f o
+pub shared : (f : ℕ → ℕ) (o : ℕ) (xs : List ℕ) (n : ℕ) → times o xs ≡ n → n ≤ 1 → share f o xs ≤ f o
 shared f o xs zero e l = omega (arith, share-none f o xs e)
 shared f o xs (suc zero) e l = omega (arith, share-one f o xs (omega arith))
 shared f o xs (suc (suc n)) e l = absurd (omega arith)
@@ -89,7 +81,7 @@ worth-all week open_off capacity prices front k =
       arith,
       total-share (price_at prices) (length week.orders) (orders_of front) (λ o some. served-known week open_off capacity o front k some),
       total-mono (λ o. share (price_at prices) o (orders_of front)) (price_at prices) (length week.orders)
-      (λ o l. shared (price_at prices) o (orders_of front) (times o (orders_of front)) refl (served-once week open_off capacity o front k)),
+          (λ o l. shared (price_at prices) o (orders_of front) (times o (orders_of front)) refl (served-once week open_off capacity o front k)),
     )
 
 -- what a front that is home again costs: nothing is carried, or two legs and the fee are paid
@@ -125,6 +117,7 @@ lowest-trip case pairs prices total w sum enough duty c = by_cost (cost-home cas
         let most = worth-all case.week (open_off_at case 0) (capacity_at case 0) prices (front_of duty) c.lawful.front.office in
         omega (arith, ints, sum, most)
 
+-- each road has the cents that each leg has
 found-cents : (p : Road → Bool) (legs : List Road) (cents : ℕ) → ((n : ℕ) (leg : Road) → slice_get legs n ≡ Some leg → leg.cents ≡ cents) →
     is_some (find p legs) ≡ true → cents_of_road (find p legs) ≡ cents
 found-cents p [] cents each some = cc
@@ -154,102 +147,3 @@ trip-week week one legs drivers orders = record {
   away = λ order. away-all week.orders order orders;
   fee = fee-first week.drivers one drivers;
 }
-
--- a lawful trip of 8,000 cents that serves every order is a least duty wherever it is inside
-pub least-trip : (case : Case) (duty : Duty) (pairs : Pairs) (prices : Prices) (total : ℕ) → IsTripWeek case.week → 8000 ≤ total →
-    total_below (price_at prices) (length case.week.orders) ≡ total → IsLawful case 0 duty → cost_after case 0 (front_of duty) ≡ 8000 →
-    worth (price_at prices) (orders_of (front_of duty)) ≡ total → IsInside case.week pairs 0 (front_of duty) →
-    IsLeast case 0 pairs prices (pos 8000 -ℤ pos total) duty
-least-trip case duty pairs prices total w enough sum lawful cost worth_all inside = record {
-  choice = record { lawful = lawful; inside = inside };
-  has_value = omega (arith, ints, cost, worth_all);
-  lowest = lowest-trip case pairs prices total w sum enough;
-}
-
--- what a duty is worth that serves each order of the week
-pub worth-served : (case : Case) (duty : Duty) (prices : Prices) → IsLawful case 0 duty →
-    ((o : ℕ) → o < length case.week.orders → serves o (front_of duty) ≡ true) →
-    worth (price_at prices) (orders_of (front_of duty)) ≡ total_below (price_at prices) (length case.week.orders)
-worth-served case duty prices lawful all =
-    let office = lawful.front.office in
-    sym (total-share (price_at prices) (length case.week.orders) (orders_of (front_of duty)) (λ o some. served-known case.week _ _ o (front_of duty) office some))
-    ∙ total-same (λ o. share (price_at prices) o (orders_of (front_of duty))) (price_at prices) (length case.week.orders)
-    (λ o l. share-one (price_at prices) o (orders_of (front_of duty)) (once o l))
-  where
-    once : (o : ℕ) → o < length case.week.orders → times o (orders_of (front_of duty)) ≡ 1
-    once o l = omega (arith, served-once case.week _ _ o (front_of duty) lawful.front.office, is-served o (front_of duty) (all o l))
-
-below-one : (o : ℕ) → o < 1 → o ≡ 0
-below-one o l = omega arith
-
--- where the one order is Barred, the empty duty is the least
-pub least-barred : (case : Case) → length case.week.orders ≡ 1 →
-    IsLeast case 0 (record { orders = 1; cells = Barred ∷ [] }) (record { cents = 9000 ∷ [] }) (pos 0) (record { steps = [] })
-least-barred case one = record {
-  choice = record {
-    lawful = record { front = record { office = tt; hours = refl }; home = refl };
-    inside = record {
-      forced = λ o l h. let same = below-one o (omega (arith, one, l)) in let barred : Barred ≡ Forced = rw same at h in cc;
-      barred = λ o l h. refl;
-    };
-  };
-  has_value = refl;
-  lowest = λ duty c.
-      let cents : Prices = record { cents = 9000 ∷ [] } in
-      let front = front_of duty in
-      let idle : serves 0 front ≡ false = c.inside.barred 0 (omega (arith, one)) refl in
-      let sum : total_below (λ o. share (price_at cents) o (orders_of front)) (length case.week.orders) ≡ share (price_at cents) 0 (orders_of front) + 0 =
-      ap (total_below (λ o. share (price_at cents) o (orders_of front))) one in
-      let free : worth (price_at cents) (orders_of front) ≡ 0 =
-      omega (
-        arith,
-        sum,
-        total-share (price_at cents) (length case.week.orders) (orders_of front) (λ o some. served-known case.week _ _ o front c.lawful.front.office some),
-        share-none (price_at cents) 0 (orders_of front) (unserved 0 front idle),
-      ) in
-      omega (arith, ints, free);
-}
-
--- a trip with the one order is the least duty, unless the order is Barred
-pub one-trip : (case : Case) (duty : Duty) (pair : Pair) (cents : ℕ) → IsTripWeek case.week → length case.week.orders ≡ 1 → is_barred pair ≡ false →
-    IsLawful case 0 duty → cents ≡ 8000 → cents ≡ cost_after case 0 (front_of duty) → serves 0 (front_of duty) ≡ true →
-    IsLeast case 0 (record { orders = 1; cells = pair ∷ [] }) (record { cents = 9000 ∷ [] }) (negsuc 999) duty
-one-trip case duty pair cents w one free lawful paid cost serve =
-    let prices : Prices = record { cents = 9000 ∷ [] } in
-    let sum : total_below (price_at prices) (length case.week.orders) ≡ 9000 = ap (total_below (price_at prices)) one in
-    let all : (o : ℕ) → o < length case.week.orders → serves o (front_of duty) ≡ true =
-    λ o l. let same = below-one o (omega (arith, one, l)) in rw same serve in
-    least-trip case duty (record { orders = 1; cells = pair ∷ [] }) prices 9000 w (omega arith) sum lawful (omega (arith, paid, cost))
-    (worth-served case duty prices lawful all ∙ sum)
-    (record {
-      forced = λ o l h. all o l;
-      barred = λ o l h. let same = below-one o (omega (arith, one, l)) in
-          let is : pair ≡ Barred = rw same at h in
-          let yes : is_barred pair ≡ true = rw is refl in
-          cc;
-    })
-
-below-two : (o : ℕ) → o < 2 → (o ≡ 0) ⊎ (o ≡ 1)
-below-two zero l = inl refl
-below-two (suc zero) l = inr refl
-below-two (suc (suc o)) l = absurd (omega arith)
-
--- a trip with both orders is the least duty where both are Free
-pub two-trip : (case : Case) (duty : Duty) (cents : ℕ) → IsTripWeek case.week → length case.week.orders ≡ 2 →
-    IsLawful case 0 duty → cents ≡ 8000 → cents ≡ cost_after case 0 (front_of duty) → serves 0 (front_of duty) ≡ true → serves 1 (front_of duty) ≡ true →
-    IsLeast case 0 (record { orders = 2; cells = Free ∷ Free ∷ [] }) (record { cents = 9000 ∷ 4500 ∷ [] }) (negsuc 5499) duty
-two-trip case duty cents w two lawful paid cost serve_a serve_b =
-    let prices : Prices = record { cents = 9000 ∷ 4500 ∷ [] } in
-    let sum : total_below (price_at prices) (length case.week.orders) ≡ 13500 = ap (total_below (price_at prices)) two in
-    let all : (o : ℕ) → o < length case.week.orders → serves o (front_of duty) ≡ true = λ o l. by_order o (below-two o (omega (arith, two, l))) in
-    least-trip case duty (record { orders = 2; cells = Free ∷ Free ∷ [] }) prices 13500 w (omega arith) sum lawful (omega (arith, paid, cost))
-    (worth-served case duty prices lawful all ∙ sum)
-    (record { forced = λ o l h. all o l; barred = λ o l h. by_cell o (below-two o (omega (arith, two, l))) h })
-  where
-    by_order : (o : ℕ) → (o ≡ 0) ⊎ (o ≡ 1) → serves o (front_of duty) ≡ true
-    by_order o (inl e) = rw e serve_a
-    by_order o (inr e) = rw e serve_b
-
-    by_cell : (o : ℕ) → (o ≡ 0) ⊎ (o ≡ 1) → pair_at (record { orders = 2; cells = Free ∷ Free ∷ [] }) 0 o ≡ Barred → serves o (front_of duty) ≡ false
-    by_cell o (inl e) h = let barred : Free ≡ Barred = rw e at h in cc
-    by_cell o (inr e) h = let barred : Free ≡ Barred = rw e at h in cc

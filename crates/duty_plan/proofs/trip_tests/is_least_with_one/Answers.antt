@@ -1,7 +1,8 @@
 use Rattle.std.proofs.Common.{◌≡◌, ℕ, refl, arith}
 use Rattle.std.proofs.lemmas.Bool.Decides.{nat_tests}
 use Rattle.duty_plan.specs.declared.deciding.Pair.TheVariants.{Free, Forced}
-use Rattle.duty_plan.proofs.Trips.{trip-week, one-trip}
+use Rattle.duty_plan.proofs.Trips.{trip-week}
+use Rattle.duty_plan.proofs.LeastTrips.{one-trip}
 use Rattle.duty_plan.proofs.trip_tests.is_least_with_one.Goals as goal
 
 pub returns-in-Ok-clause-free : goal.returns-in-Ok-clause-free

@@ -1,6 +1,7 @@
 use Rattle.std.proofs.Common.{◌≡◌, ℕ, refl, arith}
 use Rattle.std.proofs.lemmas.Bool.Decides.{nat_tests}
-use Rattle.duty_plan.proofs.Trips.{trip-week, two-trip}
+use Rattle.duty_plan.proofs.Trips.{trip-week}
+use Rattle.duty_plan.proofs.LeastTrips.{two-trip}
 use Rattle.duty_plan.proofs.trip_tests.is_least_with_two.Goals as goal
 
 pub returns-in-Ok-clause-free : goal.returns-in-Ok-clause-free
