@@ -3,10 +3,12 @@
 // order A is worth 8,000 - 9,000 = -1,000 and the one with A and B 8,000 - 9,000 - 4,500 = -5,500; the bound is 8,000 for both.
 ghost use Rattle.std.specs.Prelude.{◌≡◌, ◌<◌, IsTrue, IfOk, All, true, false, [], ◌∷◌, length, map, pos, negsuc};
 ghost use Rattle.week_book.specs.declared.weeks.Week.{Week};
-ghost use Rattle.week_book.specs.Weeks.{AreNames, IsOrder};
-ghost use Rattle.duty_plan.specs.Fronts.{serves};
+ghost use Rattle.week_book.specs.Weeks.{AreNames, IsOrder, order_of};
+ghost use Rattle.duty_plan.specs.Fronts.{Front, at_after, serves};
 ghost use Rattle.duty_plan.specs.Duties.{EachOf, IsCase, front_of, price_of};
-ghost use Rattle.duty_plan.specs.Values.{IsLeast, lagrangian};
+ghost use Rattle.duty_plan.specs.Values.{IsLeast, lagrangian, value_after};
+ghost use Rattle.duty_plan.specs.Labels.{closes_of, is_listed, opens_of};
+ghost use Rattle.duty_plan.specs.LabelLists.{hope};
 
 use crate::tests::{case_of, duty, orders, stay, step};
 use crate::{Act, Case, Duty, Pair, check_duty};
@@ -48,6 +50,37 @@ fn barred_by_hand()
         IsLeast case 0 (record { orders = 1; cells = Pair.Barred ∷ [] }) (record { cents = 9000 ∷ [] }) (pos 0) (record { steps = [] }) }
     ensures bound { (week : Week) → length week.drivers ≡ 1 → length week.orders ≡ 1 → price_of week 0 ≡ 9000 →
         lagrangian week (record { orders = 1; cells = Pair.Barred ∷ [] }) (record { cents = 9000 ∷ [] }) (pos 0 ∷ []) ≡ 9000 }
+{}
+
+/// After the load, at minute 420, the order's service waits until it opens at 480: 60 minutes, or what a break leaves of them.
+/// Before a leg nobody waits, nor before a daily or weekly rest.
+fn listed_by_hand()
+    ensures waits { (week : Week) (front : Front) → opens_of (order_of week 0) ≡ 480 → at_after week front ≡ 420 →
+        is_listed week (record { stay = record { ready = 60; off = 0; kind = Kind.Plain }; act = Act.Serve 0 }) front ≡ true }
+    ensures breaks { (week : Week) (front : Front) → opens_of (order_of week 0) ≡ 480 → at_after week front ≡ 420 →
+        is_listed week (record { stay = record { ready = 15; off = 45; kind = Kind.Plain }; act = Act.Serve 0 }) front ≡ true }
+    ensures no_longer { (week : Week) (front : Front) → opens_of (order_of week 0) ≡ 480 → at_after week front ≡ 420 →
+        is_listed week (record { stay = record { ready = 61; off = 0; kind = Kind.Plain }; act = Act.Serve 0 }) front ≡ false }
+    ensures late { (week : Week) (front : Front) → opens_of (order_of week 0) ≡ 480 → at_after week front ≡ 500 →
+        is_listed week (record { stay = record { ready = 0; off = 0; kind = Kind.Plain }; act = Act.Serve 0 }) front ≡ true }
+    ensures drives { (week : Week) (front : Front) →
+        is_listed week (record { stay = record { ready = 1; off = 0; kind = Kind.Plain }; act = Act.Leg 1 }) front ≡ false }
+    ensures rests { (week : Week) (front : Front) →
+        is_listed week (record { stay = record { ready = 1; off = 660; kind = Kind.Daily }; act = Act.Serve 0 }) front ≡ false }
+{}
+
+/// After the load the driver may still hope for order A: 2,000 - 9,000 = -7,000 cents, until its window closes at 720; and for
+/// nothing where the order is Barred.
+fn hope_by_hand()
+    ensures open { (case : Case) (front : Front) → length case.week.orders ≡ 1 → closes_of (order_of case.week 0) ≡ 720 → serves 0 front ≡ false →
+        at_after case.week front ≡ 720 → value_after case 0 (record { cents = 9000 ∷ [] }) front ≡ pos 2000 →
+        hope case 0 (record { orders = 1; cells = Pair.Free ∷ [] }) (record { cents = 9000 ∷ [] }) front ≡ negsuc 6999 }
+    ensures closed { (case : Case) (front : Front) → length case.week.orders ≡ 1 → closes_of (order_of case.week 0) ≡ 720 → serves 0 front ≡ false →
+        at_after case.week front ≡ 721 → value_after case 0 (record { cents = 9000 ∷ [] }) front ≡ pos 2000 →
+        hope case 0 (record { orders = 1; cells = Pair.Free ∷ [] }) (record { cents = 9000 ∷ [] }) front ≡ pos 2000 }
+    ensures barred { (case : Case) (front : Front) → length case.week.orders ≡ 1 → serves 0 front ≡ false →
+        value_after case 0 (record { cents = 9000 ∷ [] }) front ≡ pos 2000 →
+        hope case 0 (record { orders = 1; cells = Pair.Barred ∷ [] }) (record { cents = 9000 ∷ [] }) front ≡ pos 2000 }
 {}
 
 /// Whether the duty is lawful for 8,000 cents. With order A it is then the driver's least duty, worth -1,000 cents, where the

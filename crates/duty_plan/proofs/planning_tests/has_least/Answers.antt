@@ -1,4 +1,4 @@
-use Rattle.std.proofs.Common.{rules, ◌≡◌, ap, sym, ◌∙◌, Some, slice_get}
+use Rattle.std.proofs.Common.{◌≡◌, ap, sym, ◌∙◌, Some, slice_get}
 use Rattle.duty_plan.specs.declared.pricing.Priced.{Priced}
 use Rattle.duty_plan.specs.declared.pricing.Priced.TheVariants.{Least}
 use Rattle.duty_plan.proofs.planning_tests.has_least.Goals as goal

@@ -1,4 +1,3 @@
-use Rattle.std.proofs.Common.{◌≡◌, refl}
 use Rattle.duty_plan.proofs.LeastTrips.{least-barred}
 use Rattle.duty_plan.proofs.trip_tests.barred_by_hand.Goals as goal
 

@@ -1,7 +1,7 @@
-use Rattle.std.proofs.Common.{◌≡◌, List, length, replicate, rules, subst, sym}
+use Rattle.std.proofs.Common.{◌≡◌, List, length, rules, subst, sym}
 use Rattle.duty_plan.specs.declared.pricing.Priced.{Priced}
 use Rattle.duty_plan.specs.Rounds.{IsRound}
-use Rattle.duty_plan.proofs.Home.{home_round, home_answer_of}
+use Rattle.duty_plan.proofs.Home.{home_round}
 use Rattle.duty_plan.proofs.planning_tests.HomebodyPricer.round.Goals as goal
 
 pub returns-clause-round : goal.returns-clause-round
