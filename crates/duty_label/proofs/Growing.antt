@@ -1,47 +1,32 @@
 -- What one step more makes of a driver's label.
-use Rattle.std.proofs.Common.{◌≡◌, ℕ, ◌<◌, ◌+◌, true, false, cond, [], ◌∷◌, length, get_or, Option, Some, None, option_map, Result, Ok, slice_get, refl, ap, sym, ◌∙◌, arith}
+use Rattle.std.proofs.Common.{◌≡◌, ℕ, ◌+◌, true, false, cond, [], ◌∷◌, Some, None, Result, Ok}
+use Rattle.std.proofs.Common.{slice_get, refl, ap, ◌∙◌, arith}
 use Rattle.std.specs.Prelude.{ℤ, pos, ◌+ℤ◌, ◌-ℤ◌}
-use Rattle.std.proofs.lemmas.Option.{slice_get_read}
 use Rattle.minute_line.specs.declared.lines.History.{History}
 use Rattle.hours_rules.specs.declared.clocks.Clock.{Clock}
 use Rattle.hours_rules.specs.declared.rules.Broken.{Broken}
-use Rattle.hours_rules.specs.Rules.{fault, fault_from}
+use Rattle.hours_rules.specs.Rules.{fault_from}
 use Rattle.hours_rules.specs.Standing.{Stands}
 use Rattle.hours_rules.specs.Going.{Answers, AnswersStay}
 use Rattle.hours_rules.specs.Verdicts.{past_of}
 use Rattle.week_book.specs.declared.weeks.Driver.{Driver}
-use Rattle.week_book.specs.Weeks.{driver_of}
 use Rattle.duty_plan.specs.declared.duties.Step.{Step}
-use Rattle.duty_plan.specs.declared.faults.DutyFault.{DutyFault}
-use Rattle.duty_plan.specs.declared.faults.DutyFault.TheVariants.{Rule}
 use Rattle.duty_plan.specs.declared.plans.Case.{Case}
 use Rattle.duty_plan.specs.declared.pricing.Prices.{Prices}
 use Rattle.duty_plan.specs.declared.labels.Label.{Label}
 use Rattle.duty_plan.specs.declared.positions.Position.{Position}
 use Rattle.duty_plan.specs.declared.positions.Taken.{Taken}
 use Rattle.duty_plan.specs.Acts.{mark_of, order_of_act}
-use Rattle.duty_plan.specs.Fronts.{Front, line_after, KeepsOffice, KeepsOfficeThrough}
-use Rattle.duty_plan.specs.Duties.{IsCase, IsLawfulFront, past_at, past_or_none, open_off_at, open_or_none, capacity_at, capacity_or_none, worth}
+use Rattle.duty_plan.specs.Fronts.{Front, line_after, KeepsOfficeThrough}
+use Rattle.duty_plan.specs.Duties.{IsCase, IsLawfulFront, past_at, past_or_none, open_off_at, open_or_none, capacity_at, capacity_or_none}
+use Rattle.duty_plan.specs.Duties.{worth}
 use Rattle.duty_plan.specs.Labels.{IsLabelOf}
 use Rattle.duty_plan.specs.Positions.{IsPositionOf, IsTaken}
 use Rattle.duty_plan.specs.Values.{IsPrices, price_at, value_after}
-use Rattle.duty_plan.specs.Verdicts.{first_failed, numbered, tests_of_step, earlier_or}
-use Rattle.duty_plan.proofs.Keeping.{keeps-passed, passed-keeps}
 use Rattle.duty_plan.proofs.Stepping.{GoesOn, goes-on, IsSmallStep, small-taken}
 use Rattle.duty_label.specs.Children.{HasLabel, IsLabelOfSome, IsSmallValue, fault_of_step}
+use Rattle.duty_label.proofs.Brought.{Names, fault-hours}
 use Rattle.duty_label.proofs.Values.{value-small, value-step}
-
--- the number names this driver, with this history
-pub record Names (case : Case) (driver : ℕ) (lorry : Driver) (history : History) : Type 0 where
-  pub lorry_is : driver_of case.week driver ≡ Some lorry
-  pub history_is : slice_get case.past driver ≡ Some history
-
-pub names : (case : Case) (driver : ℕ) (lorry : Driver) (history : History) → IsCase case → driver < length case.week.drivers →
-    lorry ≡ get_or case.week.drivers driver lorry → history ≡ get_or case.past driver history → Names case driver lorry history
-names case driver lorry history c l a b = record {
-  lorry_is = slice_get_read case.week.drivers (length case.week.drivers) driver lorry refl l a;
-  history_is = slice_get_read case.past (length case.week.drivers) driver history (sym c.drivers) l b;
-}
 
 -- where a label says that its steps leave the driver
 abbrev pub position_of : Label → Position
@@ -80,7 +65,8 @@ keeps case driver lorry history front n l =
     rw (open_off, capacity) at l.office
 
 -- the step that is taken after a front that has the label
-pub takes-label : (case : Case) (driver : ℕ) (prices : Prices) (lorry : Driver) (history : History) (before : Front) (label : Label) (step : Step) (taken : Taken) →
+pub takes-label : (case : Case) (driver : ℕ) (prices : Prices) (lorry : Driver) (history : History) (before : Front) (label : Label) (step
+    : Step) (taken : Taken) →
     Names case driver lorry history → HasLabel case driver prices before label → Takes case lorry history (position_of label) step taken →
     IsTaken case.week history.open_off lorry.capacity before step taken
 takes-label case driver prices lorry history before label step taken n h t =
@@ -95,37 +81,30 @@ stands-label case driver prices lorry history before label n h =
     (rw past at h.label_of.clock, rw past at h.lawful.hours)
 
 -- the label's clock may go on through the step
-pub goes-label : (case : Case) (driver : ℕ) (prices : Prices) (lorry : Driver) (history : History) (label : Label) (step : Step) (taken : Taken) →
-    IsCase case → Names case driver lorry history → IsLabelOfSome case driver prices label → Takes case lorry history (position_of label) step taken →
+pub goes-label : (case : Case) (driver : ℕ) (prices : Prices) (lorry : Driver) (history : History) (label : Label) (step : Step) (taken :
+    Taken) →
+    IsCase case → Names case driver lorry history → IsLabelOfSome case driver prices label → Takes case lorry history (position_of label)
+    step taken →
     GoesOn label.clock step.stay taken.minutes
 goes-label case driver prices lorry history label step taken c n s t =
     let good = takes-label case driver prices lorry history s.front label step taken n s.has_label t in
-    goes-on case.week lorry.capacity history s.front step taken.minutes label.clock c.week (keeps case driver lorry history s.front n s.has_label.lawful)
+    goes-on case.week lorry.capacity history s.front step taken.minutes label.clock c.week (keeps case driver lorry history s.front n
+    s.has_label.lawful)
     good.office good.minutes (stands-label case driver prices lorry history s.front label n s.has_label).0
 
 -- a taken step is small
-pub small-label : (case : Case) (driver : ℕ) (prices : Prices) (lorry : Driver) (history : History) (label : Label) (step : Step) (taken : Taken) →
-    IsCase case → Names case driver lorry history → IsLabelOfSome case driver prices label → Takes case lorry history (position_of label) step taken →
+pub small-label : (case : Case) (driver : ℕ) (prices : Prices) (lorry : Driver) (history : History) (label : Label) (step : Step) (taken :
+    Taken) →
+    IsCase case → Names case driver lorry history → IsLabelOfSome case driver prices label → Takes case lorry history (position_of label)
+    step taken →
     IsSmallStep taken
 small-label case driver prices lorry history label step taken c n s t =
     small-taken case.week history.open_off lorry.capacity s.front step taken c.week
     (takes-label case driver prices lorry history s.front label step taken n s.has_label t)
 
--- the fault of a step that the office takes is the hours rules'
-pub fault-hours : (case : Case) (driver : ℕ) (lorry : Driver) (history : History) (before : Front) (step : Step) (found : Option Broken) →
-    Names case driver lorry history → KeepsOffice case.week history.open_off lorry.capacity step before →
-    fault (past_of history) (line_after case.week (step ∷ before)) ≡ found →
-    fault_of_step case driver before step ≡ option_map (λ broken. Rule broken) found
-fault-hours case driver lorry history before step found n k f =
-    let open_off : open_off_at case driver ≡ history.open_off = ap open_or_none n.history_is in
-    let capacity : capacity_at case driver ≡ lorry.capacity = ap capacity_or_none n.lorry_is in
-    let past : past_at case driver ≡ past_of history = ap past_or_none n.history_is in
-    let office : first_failed (tests_of_step case.week history.open_off lorry.capacity step before) ≡ None =
-    passed-keeps case.week history.open_off lorry.capacity step before k in
-    rw (open_off, capacity, past, office, f) refl
-
 -- what `go` answers for the longer line
-pub goes-line : (case : Case) (driver : ℕ) (prices : Prices) (lorry : Driver) (history : History) (before : Front) (label : Label) (step : Step) (taken : Taken)
+pub goes-line : (case : Case) (driver : ℕ) (prices : Prices) (lorry : Driver) (history : History) (before : Front) (label : Label) (step :
+    Step) (taken : Taken)
     (answer : Result Clock Broken) → Names case driver lorry history → HasLabel case driver prices before label →
     Takes case lorry history (position_of label) step taken → AnswersStay label.clock step.stay (mark_of step.act) taken.minutes answer →
     Answers 0 (past_of history) (line_after case.week (step ∷ before)) answer
@@ -135,9 +114,19 @@ goes-line case driver prices lorry history before label step taken answer n h t 
     rw good.minutes at (a 0 (past_of history) (line_after case.week before) s.0 (omega arith) s.1)
 
 -- the label of no step
-pub first-label : (case : Case) (driver : ℕ) (prices : Prices) (history : History) (clock : Clock) → slice_get case.past driver ≡ Some history →
+pub first-label : (case : Case) (driver : ℕ) (prices : Prices) (history : History) (clock : Clock) → slice_get case.past driver ≡ Some
+    history →
     Stands clock (past_of history) [] →
-    HasLabel case driver prices [] (record { clock = clock; place = 0; served = 0; used = 0; loaded = false; fee_paid = false; value = pos 0 })
+    HasLabel case driver prices [] (record {
+      clock = clock;
+      place = 0;
+      served = 0;
+      used = 0;
+      loaded = false;
+      fee_paid = false;
+      value = pos
+          0;
+    })
 first-label case driver prices history clock h s =
     let past : past_at case driver ≡ past_of history = ap past_or_none h in record {
       lawful = record { office = tt; hours = refl };
@@ -145,14 +134,17 @@ first-label case driver prices history clock h s =
     }
 
 -- the value of a label is small
-pub label-value : (case : Case) (driver : ℕ) (prices : Prices) (lorry : Driver) (history : History) (label : Label) → IsCase case → IsPrices case.week prices →
+pub label-value : (case : Case) (driver : ℕ) (prices : Prices) (lorry : Driver) (history : History) (label : Label) → IsCase case →
+    IsPrices case.week prices →
     Names case driver lorry history → IsLabelOfSome case driver prices label → IsSmallValue label.value
 label-value case driver prices lorry history label c p n s =
     rw s.has_label.label_of.value
-    (value-small case driver prices history.open_off lorry.capacity s.front c.week p (keeps case driver lorry history s.front n s.has_label.lawful))
+    (value-small case driver prices history.open_off lorry.capacity s.front c.week p (keeps case driver lorry history s.front n
+    s.has_label.lawful))
 
 -- the label of one step more
-pub longer-label : (case : Case) (driver : ℕ) (prices : Prices) (lorry : Driver) (history : History) (before : Front) (label : Label) (step : Step) (taken : Taken)
+pub longer-label : (case : Case) (driver : ℕ) (prices : Prices) (lorry : Driver) (history : History) (before : Front) (label : Label) (step
+    : Step) (taken : Taken)
     (clock : Clock) (fee price : ℕ) (value : ℤ) → Names case driver lorry history → HasLabel case driver prices before label →
     Takes case lorry history (position_of label) step taken → AnswersStay label.clock step.stay (mark_of step.act) taken.minutes (Ok clock) →
     fee ≡ cond label.fee_paid 0 lorry.fee → price ≡ worth (price_at prices) (order_of_act step.act) →
@@ -181,30 +173,7 @@ longer-label case driver prices lorry history before label step taken clock fee 
         loaded = good.position.loaded;
         fee_paid = refl;
         value = sum
-            ∙ value-step case driver prices lorry before step label.fee_paid fee taken.cents price n.lorry_is h.label_of.fee_paid f good.cents p;
+            ∙ value-step case driver prices lorry before step label.fee_paid fee taken.cents price n.lorry_is h.label_of.fee_paid f
+            good.cents p;
       },
     )
-
-no-number : (found : Option DutyFault) → option_map (numbered 0) found ≡ None → found ≡ None
-no-number None h = refl
-no-number (Some f) h = cc
-
-no-rule : (found : Option Broken) → option_map (λ broken. Rule broken) found ≡ None → found ≡ None
-no-rule None h = refl
-no-rule (Some b) h = cc
-
-neither : (found later : Option DutyFault) → earlier_or found later ≡ None → (found ≡ None) × (later ≡ None)
-neither None later h = (refl, h)
-neither (Some f) later h = cc
-
--- a step that brings no fault makes a lawful front of one
-pub lawful-longer : (case : Case) (driver : ℕ) (before : Front) (step : Step) → IsLawfulFront case driver before →
-    fault_of_step case driver before step ≡ None → IsLawfulFront case driver (step ∷ before)
-lawful-longer case driver before step l h =
-    let parts = neither _ (option_map (λ broken. Rule broken) (fault (past_at case driver) (line_after case.week (step ∷ before)))) h in record {
-      office = (
-        keeps-passed case.week (open_off_at case driver) (capacity_at case driver) step before (no-number _ parts.0),
-        l.office,
-      );
-      hours = no-rule _ parts.1;
-    }

@@ -1,2 +1,3 @@
+pub mod Brought
 pub mod Values
 pub mod Growing

@@ -1,5 +1,6 @@
 -- What one step more adds to a value, and how large values get.
-use Rattle.std.proofs.Common.{w64, ◌≡◌, ℕ, ◌+◌, ◌*◌, ◌≤◌, Bool, true, false, cond, ltb, [], ◌∷◌, length, Option, Some, None, slice_get, refl, ap, sym, ◌∙◌, arith}
+use Rattle.std.proofs.Common.{w64, ◌≡◌, ℕ, ◌+◌, ◌*◌, ◌≤◌, Bool, true, false, cond, ltb, [], ◌∷◌, length, Option, Some, None, slice_get}
+use Rattle.std.proofs.Common.{refl, ap, sym, ◌∙◌, arith}
 use Rattle.std.proofs.Common.{to_z, of_z}
 use Rattle.std.specs.Prelude.{unwrap_or, ℤ, pos, ◌+ℤ◌, ◌-ℤ◌}
 use Rattle.std.proofs.lemmas.Bool.{ltb-true, ltb-false}
@@ -46,7 +47,8 @@ no-price prices order h =
     omega (arith, none, unwrap_or-slice_get prices.cents order 0)
 
 -- the price of an act's order
-worth-act : (week : Week) (prices : Prices) (act : Act) → IsWeek week → IsPrices week prices → worth (price_at prices) (order_of_act act) ≤ 100000000
+worth-act : (week : Week) (prices : Prices) (act : Act) → IsWeek week → IsPrices week prices → worth (price_at prices) (order_of_act act) ≤
+    100000000
 worth-act week prices (Leg to) w p = omega arith
 worth-act week prices (Serve order) w p = omega (arith, price-small week prices order w p)
 worth-act week prices Load w p = omega arith
@@ -63,11 +65,13 @@ worth-front week prices (step ∷ before) w p =
       worth-front week prices before w p,
     )
 
-pub fee-small : (found : Option Driver) (driver : ℕ) (week : Week) → IsWeek week → driver_of week driver ≡ found → fee_or_none found ≤ 10000000
+pub fee-small : (found : Option Driver) (driver : ℕ) (week : Week) → IsWeek week → driver_of week driver ≡ found → fee_or_none found ≤
+    10000000
 fee-small None driver week w e = omega arith
 fee-small (Some d) driver week w e = (all-slice_get IsDriver week.drivers driver d w.drivers e).fee
 
-cost-small : (case : Case) (driver open_off capacity : ℕ) (front : Front) → IsWeek case.week → KeepsOfficeThrough case.week open_off capacity front →
+cost-small : (case : Case) (driver open_off capacity : ℕ) (front : Front) → IsWeek case.week → KeepsOfficeThrough case.week open_off
+    capacity front →
     cost_after case driver front ≤ 30000000000
 cost-small case driver open_off capacity [] w k = omega arith
 cost-small case driver open_off capacity (step ∷ before) w k =
@@ -80,7 +84,8 @@ cost-small case driver open_off capacity (step ∷ before) w k =
     )
 
 -- a lawful front's value is small
-pub value-small : (case : Case) (driver : ℕ) (prices : Prices) (open_off capacity : ℕ) (front : Front) → IsWeek case.week → IsPrices case.week prices →
+pub value-small : (case : Case) (driver : ℕ) (prices : Prices) (open_off capacity : ℕ) (front : Front) → IsWeek case.week → IsPrices
+    case.week prices →
     KeepsOfficeThrough case.week open_off capacity front → IsSmallValue (value_after case driver prices front)
 value-small case driver prices open_off capacity front w p k =
     let worths = worth-front case.week prices front w p in
@@ -92,9 +97,11 @@ value-small case driver prices open_off capacity front w p k =
     }
 
 -- the value of a front with a step more
-pub value-step : (case : Case) (driver : ℕ) (prices : Prices) (lorry : Driver) (before : Front) (step : Step) (paid : Bool) (fee cents price : ℕ) →
+pub value-step : (case : Case) (driver : ℕ) (prices : Prices) (lorry : Driver) (before : Front) (step : Step) (paid : Bool) (fee cents
+    price : ℕ) →
     driver_of case.week driver ≡ Some lorry → paid ≡ has_step before → fee ≡ cond paid 0 lorry.fee →
-    cents ≡ night_of case.week step before + cents_of_act case.week (place_after before) step.act → price ≡ worth (price_at prices) (order_of_act step.act) →
+    cents ≡ night_of case.week step before + cents_of_act case.week (place_after before) step.act → price ≡ worth (price_at prices)
+    (order_of_act step.act) →
     value_after case driver prices before +ℤ pos (fee + cents) -ℤ pos price ≡ value_after case driver prices (step ∷ before)
 value-step case driver prices lorry [] step paid fee cents price d h f c p =
     let due : fee_or_none (driver_of case.week driver) ≡ lorry.fee = ap fee_or_none d in

@@ -1,12 +1,13 @@
 use Rattle.std.proofs.Common.{◌∷◌, ◌∙◌, sym, refl}
-use Rattle.duty_label.proofs.Growing.{lawful-longer}
+use Rattle.duty_label.proofs.Brought.{lawful-longer}
 use Rattle.duty_label.proofs.children.child.Goals as goal
 
 pub returns-in-Ok-clause-lawful : goal.returns-in-Ok-clause-lawful
 returns-in-Ok-clause-lawful c = λ before h. (
   λ ok. (
     sym c.is_barred.ensures ∙ c.if-is_barred.false,
-    lawful-longer c.args.case.now c.args.driver before (record { stay = c.args.stay; act = c.args.act }) h.lawful (c.in-Ok.ensures before h).0,
+    lawful-longer c.args.case.now c.args.driver before (record { stay = c.args.stay; act = c.args.act }) h.lawful (c.in-Ok.ensures before
+        h).0,
   ),
   λ l. refl,
 )
@@ -17,7 +18,8 @@ returns-in-Ok-clause-some c =
     let next = c.in-Ok.ensures s.front s.has_label in record {
       front = record { stay = c.args.stay; act = c.args.act } ∷ s.front;
       has_label = record {
-        lawful = lawful-longer c.args.case.now c.args.driver s.front (record { stay = c.args.stay; act = c.args.act }) s.has_label.lawful next.0;
+        lawful = lawful-longer c.args.case.now c.args.driver s.front (record { stay = c.args.stay; act = c.args.act }) s.has_label.lawful
+            next.0;
         label_of = next.1;
       };
     }
