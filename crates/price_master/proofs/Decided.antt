@@ -15,7 +15,8 @@ use Rattle.duty_plan.specs.Values.{all_below, charge, or_zero, sum_of, lagrangia
 use Rattle.duty_plan.specs.Sums.{total_below}
 use Rattle.price_master.specs.Laws.{ForcesOnce, IsLeastPlan}
 use Rattle.duty_plan.proofs.Sums.{worth-append, share, share-none, share-one, total-same, total-add, total-share}
-use Rattle.price_master.proofs.Duality.{slice_get-lt, uncarried, all-at}
+use Rattle.duty_plan.proofs.Lists.{slice_get-lt}
+use Rattle.price_master.proofs.Duality.{uncarried, all-at}
 use Rattle.price_master.proofs.Carried.{served_by, get-below}
 use Rattle.price_master.proofs.Falls.{barred-is}
 use Rattle.duty_plan.proofs.Carrying.{served-once, served-known}

@@ -2,8 +2,6 @@
 use Rattle.std.proofs.Common.{◌≡◌, ◌≢◌, ◌&&◌, ◌||◌, ℕ, zero, suc, ◌+◌, ◌≤◌, ◌<◌, Bool, true, false, List, [], ◌∷◌, length, refl, ap, sym, ◌∙◌, arith, eqb, ℤ, pos, negsuc, ◌+ℤ◌, ◌≤ℤ◌, Some, slice_get}
 use Rattle.std.proofs.lemmas.Int.{ints}
 use Rattle.std.proofs.lemmas.Bool.Decides.{nat_tests}
-use Rattle.duty_plan.specs.declared.duties.Act.{Act}
-use Rattle.duty_plan.specs.declared.duties.Act.TheVariants.{Leg, Serve, Load}
 use Rattle.duty_plan.specs.declared.duties.Duty.{Duty}
 use Rattle.duty_plan.specs.declared.plans.Case.{Case}
 use Rattle.duty_plan.specs.declared.plans.Plan.{Plan}
@@ -11,8 +9,7 @@ use Rattle.duty_plan.specs.declared.deciding.Pairs.{Pairs}
 use Rattle.duty_plan.specs.declared.deciding.Pair.{Pair}
 use Rattle.duty_plan.specs.declared.deciding.Pair.TheVariants.{Free, Forced, Barred}
 use Rattle.duty_plan.specs.declared.pricing.Prices.{Prices}
-use Rattle.duty_plan.specs.Fronts.{Front, serves}
-use Rattle.duty_plan.specs.Acts.{serves_order, order_of_act}
+use Rattle.duty_plan.specs.Fronts.{serves}
 use Rattle.duty_plan.specs.Duties.{times, worth, carried, orders_of, front_of, price_of, cost_of_duties, cost_of_plan, IsLawfulPlan}
 use Rattle.duty_plan.specs.Values.{all_below, charge, or_zero, sum_of, lagrangian, is_barred, barred_for_all, pair_at, price_at, value_after, IsPlanInside, IsPrices, AreLeastValues}
 use Rattle.duty_plan.specs.Sums.{total_below}

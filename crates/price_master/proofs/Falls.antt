@@ -14,7 +14,8 @@ use Rattle.duty_plan.specs.Values.{all_below, charge, or_zero, sum_of, lagrangia
 use Rattle.duty_plan.specs.Sums.{total_below}
 use Rattle.price_master.specs.Laws.{DecidesFree}
 use Rattle.duty_plan.proofs.Sums.{total-mono}
-use Rattle.price_master.proofs.Duality.{slice_get-lt, and_parts}
+use Rattle.duty_plan.proofs.Lists.{slice_get-lt}
+use Rattle.price_master.proofs.Duality.{and_parts}
 use Rattle.price_master.proofs.Decisions.{is-forced, is-barred, is-free, is-pair, path-forced, path-barred}
 
 -- what is Forced or Barred at a node stays so at its child

@@ -10,7 +10,7 @@ use Rattle.duty_plan.specs.Sums.{total_below}
 use Rattle.duty_plan.specs.Trees.{IsLonePlan}
 use Rattle.price_master.specs.Laws.{lone_cost}
 use Rattle.duty_plan.proofs.Sums.{times-append, share, share-none, share-one, total-same, total-share}
-use Rattle.price_master.proofs.Duality.{unserved}
+use Rattle.duty_plan.proofs.Carrying.{unserved}
 use Rattle.price_master.proofs.Carried.{served}
 use Rattle.price_master.proofs.Once.{listed-known}
 

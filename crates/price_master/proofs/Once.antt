@@ -1,14 +1,8 @@
 -- What some lawful duties carry is carried once, and is of the week.
-use Rattle.std.proofs.Common.{◌≡◌, ◌≢◌, not, ℕ, zero, suc, ◌+◌, ◌≤◌, ◌<◌, Bool, true, false, List, [], ◌∷◌, ◌++◌, length, refl, ap, ◌∙◌, arith, eqb, Option, Some, None, slice_get}
+use Rattle.std.proofs.Common.{◌≡◌, ◌≢◌, ℕ, zero, suc, ◌+◌, ◌≤◌, ◌<◌, Bool, true, false, List, [], ◌∷◌, refl, arith, eqb, Some, slice_get}
 use Rattle.std.proofs.lemmas.Bool.Decides.{nat_tests}
-use Rattle.duty_plan.specs.declared.duties.Act.{Act}
-use Rattle.duty_plan.specs.declared.duties.Act.TheVariants.{Leg, Serve, Load}
 use Rattle.duty_plan.specs.declared.duties.Duty.{Duty}
-use Rattle.week_book.specs.declared.weeks.Order.{Order}
-use Rattle.week_book.specs.declared.weeks.Week.{Week}
-use Rattle.week_book.specs.Weeks.{order_of}
-use Rattle.duty_plan.specs.Fronts.{Front, serves, KeepsOfficeThrough, is_new, place_after}
-use Rattle.duty_plan.specs.Acts.{is_at, can_be_done, order_of_act}
+use Rattle.duty_plan.specs.Fronts.{serves}
 use Rattle.duty_plan.specs.Duties.{times, carried, orders_of, front_of}
 use Rattle.duty_plan.proofs.Sums.{times-append}
 use Rattle.duty_plan.proofs.Carrying.{unserved}
