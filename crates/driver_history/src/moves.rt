@@ -8,7 +8,7 @@ ghost use Rattle.driver_history.specs.Advancing.{drive_total, work_total, left_o
 ghost use Rattle.driver_history.specs.Keeping.{seen};
 
 use crate::carrying::Carried;
-use minute_line::{History, Kind, Line, Many, Memory, Stint};
+use minute_line::{History, Kind, Line, Many, Memory, Stint, copy_history};
 use std::alloc::Global;
 
 /// The minutes of a week.
@@ -87,21 +87,6 @@ pub fn advance(alloc: Global, history: &History, line: &Line) -> Result<History,
     Ok(left.into_history(drive(week), later(&history.work16, work(week)))?)
 }
 
-/// The same history, in memory of its own.
-fn copied(alloc: Global, history: &History) -> Result<History, Memory>
-    ensures { IfOk result (λ copy. fields_of copy ≡ fields_of history.now) }
-{
-    Ok(History {
-        prev_weekly: history.prev_weekly,
-        stints: Line {
-            stints: Many::from_slice(alloc, history.stints.stints.as_slice())?,
-        },
-        open_off: history.open_off,
-        prev_drive: history.prev_drive,
-        work16: history.work16,
-    })
-}
-
 /// The line of a week in which nothing is done.
 fn idle_line(alloc: Global) -> Line
     ensures { result.stints ≡ [] }
@@ -124,7 +109,7 @@ fn idle_week(alloc: Global, history: &History) -> Result<History, Memory>
 pub fn idle(alloc: Global, history: &History, weeks: u32) -> Result<History, Memory>
     ensures { IfOk result (λ next. fields_of next ≡ idle_of weeks (fields_of history.now)) }
 {
-    let mut now = copied(alloc, history)?;
+    let mut now = copy_history(alloc, history)?;
     for _ in 0..weeks.min(16) {
         now = idle_week(alloc, &now)?;
     }
