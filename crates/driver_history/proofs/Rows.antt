@@ -1,59 +1,55 @@
 -- The rows of a driver: how they are found, and their ranges.
-use Rattle.std.proofs.Common.{◌≡◌, ℕ, ◌+◌, ◌-◌, ◌≤◌, ◌<◌, true, false, inl, inr, List, [], ◌∷◌, ◌++◌, length, get_or, drop, refl, arith, suc, zero, sym, ◌∙◌, Option, Some, None, append-nil, drop-cons, add-one, slice_get, nat_eq}
+use Rattle.std.proofs.Common.{◌≡◌, ℕ, ◌+◌, ◌-◌, ◌≤◌, ◌<◌, true, false, inl, inr, List, [], ◌∷◌, ◌++◌, length, get_or, drop, refl, arith, suc, zero, sym, ◌∙◌, Option, Some, None, drop-cons, ap, cond, Bool, add-one, slice_get, nat_eq}
 use Rattle.std.proofs.lemmas.Bool.{cases_Bool}
 use Rattle.std.proofs.lemmas.Bool.Decides.{nat_tests}
 use Rattle.std.proofs.lemmas.Int.{ints}
 use Rattle.std.proofs.lemmas.List.{drop_all}
-use Rattle.std.specs.List.{filter_map}
+use Rattle.std.specs.List.{filter_map, cons_option}
 use Rattle.std.specs.Str.{bytes_eq}
 use Rattle.week_book.specs.declared.rows.Row.{Row}
 use Rattle.week_book.specs.declared.rows.Row.TheVariants.{Rest, Worked, Past, Did}
 use Rattle.week_book.specs.Texts.{each_row}
 use Rattle.week_book.specs.Pasts.{Spell, Rested, Toil, past_spells, did_spells, rests_of, toils_of, in_past_range, each_lasts, HasPastRows}
-use Rattle.driver_history.specs.Finding.{past_in, did_in, rest_in, toil_in, first_some, each_within, ArePast, IsRest, IsToil}
+use Rattle.driver_history.specs.Finding.{past_in, did_in, rest_in, toil_in, first_some, or_else, each_within, ArePast, IsRest, IsToil}
 use Rattle.driver_history.specs.Reading.{first_of, trailing_off, off_in}
+
+cons-if : {B : Type 0} (b : Bool) (x : B) (xs : List B) → cons_option (cond b (Some x) None) xs ≡ cond b (x ∷ xs) xs
+cons-if true x xs = refl
+cons-if false x xs = refl
 
 pub past-rows : (name : List ℕ) (rows : List Row) → filter_map (past_in name) rows ≡ past_spells name rows
 past-rows name [] = refl
-past-rows name (Past row driver w minutes ∷ rs) =
-    elim (cases_Bool (bytes_eq driver name)) [
-      | inl t ↦ rw (t, past-rows name rs) refl
-      | inr f ↦ rw (f, past-rows name rs) refl
-    ]
+past-rows name (Past row driver w minutes ∷ rs) = rw (past-rows name rs) (cons-if (bytes_eq driver name) _ _)
 past-rows name (_ ∷ rs) = past-rows name rs
 
 pub did-rows : (name : List ℕ) (rows : List Row) → filter_map (did_in name) rows ≡ did_spells name rows
 did-rows name [] = refl
-did-rows name (Did row driver w minutes ∷ rs) =
-    elim (cases_Bool (bytes_eq driver name)) [
-      | inl t ↦ rw (t, did-rows name rs) refl
-      | inr f ↦ rw (f, did-rows name rs) refl
-    ]
+did-rows name (Did row driver w minutes ∷ rs) = rw (did-rows name rs) (cons-if (bytes_eq driver name) _ _)
 did-rows name (_ ∷ rs) = did-rows name rs
 
-pub rest-rows : (name : List ℕ) (rows : List Row) → first_some (rest_in name) rows ≡ first_of (rests_of name rows)
+pub rest-rows : (name : List ℕ) (rows : List Row) → filter_map (rest_in name) rows ≡ rests_of name rows
 rest-rows name [] = refl
-rest-rows name (Rest row driver end minutes ∷ rs) =
-    elim (cases_Bool (bytes_eq driver name)) [
-      | inl t ↦ rw t refl
-      | inr f ↦ rw f (rest-rows name rs)
-    ]
+rest-rows name (Rest row driver end minutes ∷ rs) = rw (rest-rows name rs) (cons-if (bytes_eq driver name) _ _)
 rest-rows name (_ ∷ rs) = rest-rows name rs
 
-pub toil-rows : (name : List ℕ) (rows : List Row) → first_some (toil_in name) rows ≡ first_of (toils_of name rows)
+pub toil-rows : (name : List ℕ) (rows : List Row) → filter_map (toil_in name) rows ≡ toils_of name rows
 toil-rows name [] = refl
-toil-rows name (Worked row driver last weeks ∷ rs) =
-    elim (cases_Bool (bytes_eq driver name)) [
-      | inl t ↦ rw t refl
-      | inr f ↦ rw f (toil-rows name rs)
-    ]
+toil-rows name (Worked row driver last weeks ∷ rs) = rw (toil-rows name rs) (cons-if (bytes_eq driver name) _ _)
 toil-rows name (_ ∷ rs) = toil-rows name rs
 
--- all rows were looked at
-pub all_found : (f : Row → Option Spell) (rows : List Row) (i : ℕ) (found : List Spell) → length rows ≤ i →
-    found ++ filter_map f (drop i rows) ≡ filter_map f rows → found ≡ filter_map f rows
-all_found f rows i found l h =
-    let none : drop i rows ≡ [] = drop_all i rows l in sym (append-nil found) ∙ rw none at h
+first-cons : {B : Type 0} (o : Option B) (xs : List B) → or_else o (first_of xs) ≡ first_of (cons_option o xs)
+first-cons None xs = refl
+first-cons (Some x) xs = refl
+
+first-filter : {B : Type 0} (f : Row → Option B) (rows : List Row) → first_some f rows ≡ first_of (filter_map f rows)
+first-filter f [] = refl
+first-filter f (r ∷ rs) = rw (first-filter f rs) (first-cons (f r) (filter_map f rs))
+
+pub first-rest : (name : List ℕ) (rows : List Row) → first_some (rest_in name) rows ≡ first_of (rests_of name rows)
+first-rest name rows = first-filter (rest_in name) rows ∙ ap first_of (rest-rows name rows)
+
+pub first-toil : (name : List ℕ) (rows : List Row) → first_some (toil_in name) rows ≡ first_of (toils_of name rows)
+first-toil name rows = first-filter (toil_in name) rows ∙ ap first_of (toil-rows name rows)
 
 -- the first row that says something
 pub some_found : {B : Type 0} (f : Row → Option B) (rows : List Row) (i : ℕ) (d : Row) (y : B) → i < length rows →
@@ -78,90 +74,84 @@ trailing-last (s ∷ t ∷ ss) zero e = absurd (omega arith)
 trailing-last (s ∷ t ∷ ss) (suc n) e =
     let more : nat_eq (suc (length ss)) 0 ≡ false = grind (arith, nat_tests) in rw more (trailing-last (t ∷ ss) n (omega arith))
 
--- the ranges of past rows
-past-row_range : (name : List ℕ) (r : Row) (rs : List Row) → in_past_range r ≡ true →
-    (each_within 2000000 (past_spells name rs) ≡ true) × (each_lasts (past_spells name rs) ≡ true) × (length (past_spells name rs) ≤ length rs) →
-    (each_within 2000000 (past_spells name (r ∷ rs)) ≡ true) × (each_lasts (past_spells name (r ∷ rs)) ≡ true) × (length (past_spells name (r ∷ rs)) ≤ suc (length rs))
-past-row_range name (Past row driver w minutes) rs h (a, b, c) =
-    elim (cases_Bool (bytes_eq driver name)) [
-      | inl t ↦ rw t (grind (arith, nat_tests), grind (arith, nat_tests), omega arith)
-      | inr f ↦ rw f (a, b, omega arith)
-    ]
-past-row_range name _ rs h (a, b, c) = (a, b, omega arith)
+-- what a row in its ranges says
+some-if : {B : Type 0} (b : Bool) (x y : B) → cond b (Some x) None ≡ Some y → x ≡ y
+some-if true x y e = cc
+some-if false x y e = cc
 
-past-range : (name : List ℕ) (rows : List Row) → each_row in_past_range rows ≡ true →
-    (each_within 2000000 (past_spells name rows) ≡ true) × (each_lasts (past_spells name rows) ≡ true) × (length (past_spells name rows) ≤ length rows)
-past-range name [] h = (refl, refl, omega arith)
-past-range name (r ∷ rs) h = past-row_range name r rs (first h) (past-range name rs (rest h))
+past-said : (name : List ℕ) (r : Row) (s : Spell) → in_past_range r ≡ true → past_in name r ≡ Some s → (1 ≤ s.minutes) × (s.minutes ≤ 2000000)
+past-said name (Past row driver w minutes) s h e =
+    rw (← some-if (bytes_eq driver name) _ s e) (grind (arith, nat_tests), grind (arith, nat_tests))
+past-said name _ s h e = cc
+
+did-said : (name : List ℕ) (r : Row) (s : Spell) → in_past_range r ≡ true → did_in name r ≡ Some s → s.minutes ≤ 2000000
+did-said name (Did row driver w minutes) s h e = rw (← some-if (bytes_eq driver name) _ s e) (grind (arith, nat_tests))
+did-said name _ s h e = cc
+
+rest-said : (name : List ℕ) (r : Row) (x : Rested) → in_past_range r ≡ true → rest_in name r ≡ Some x → IsRest x
+rest-said name (Rest row driver end minutes) x h e =
+    rw (← some-if (bytes_eq driver name) _ x e)
+    (record { end = grind (arith, ints); minutes = (grind (arith, nat_tests), grind (arith, nat_tests)) })
+rest-said name _ x h e = cc
+
+toil-said : (name : List ℕ) (r : Row) (x : Toil) → in_past_range r ≡ true → toil_in name r ≡ Some x → IsToil x
+toil-said name (Worked row driver last weeks) x h e =
+    rw (← some-if (bytes_eq driver name) _ x e) (record { last = grind (arith, nat_tests); weeks = grind (arith, nat_tests) })
+toil-said name _ x h e = cc
+
+-- what rows in their ranges say
+few-said : (f : Row → Option Spell) (rows : List Row) → length (filter_map f rows) ≤ length rows
+few-said f [] = omega arith
+few-said f (r ∷ rs) = here (f r) (few-said f rs)
   where
-    first : each_row in_past_range (r ∷ rs) ≡ true → in_past_range r ≡ true
-    first g = grind arith
+    here : (o : Option Spell) → length (filter_map f rs) ≤ length rs → length (cons_option o (filter_map f rs)) ≤ suc (length rs)
+    here None more = omega arith
+    here (Some s) more = omega arith
 
-    rest : each_row in_past_range (r ∷ rs) ≡ true → each_row in_past_range rs ≡ true
-    rest g = grind arith
+within-said : (f : Row → Option Spell) → ((r : Row) (s : Spell) → in_past_range r ≡ true → f r ≡ Some s → s.minutes ≤ 2000000) →
+    (rows : List Row) → each_row in_past_range rows ≡ true → each_within 2000000 (filter_map f rows) ≡ true
+within-said f said [] h = refl
+within-said f said (r ∷ rs) h = here (f r) refl (within-said f said rs (grind arith))
+  where
+    here : (o : Option Spell) → f r ≡ o → each_within 2000000 (filter_map f rs) ≡ true → each_within 2000000 (cons_option o (filter_map f rs)) ≡ true
+    here None e more = more
+    here (Some s) e more = let most = said r s (grind arith) e in grind (arith, nat_tests)
+
+lasts-said : (name : List ℕ) (rows : List Row) → each_row in_past_range rows ≡ true → each_lasts (filter_map (past_in name) rows) ≡ true
+lasts-said name [] h = refl
+lasts-said name (r ∷ rs) h = here (past_in name r) refl (lasts-said name rs (grind arith))
+  where
+    here : (o : Option Spell) → past_in name r ≡ o → each_lasts (filter_map (past_in name) rs) ≡ true →
+        each_lasts (cons_option o (filter_map (past_in name) rs)) ≡ true
+    here None e more = more
+    here (Some s) e more = let least = (past-said name r s (grind arith) e).0 in grind (arith, nat_tests)
+
+first-said : {B : Type 0} (f : Row → Option B) (P : B → Type 0) → ((r : Row) (x : B) → in_past_range r ≡ true → f r ≡ Some x → P x) →
+    (rows : List Row) (x : B) → each_row in_past_range rows ≡ true → first_some f rows ≡ Some x → P x
+first-said f P said [] x h e = cc
+first-said {B = B} f P said (r ∷ rs) x h e = here (f r) refl e (first-said f P said rs x (grind arith))
+  where
+    here : (o : Option B) → f r ≡ o → or_else o (first_some f rs) ≡ Some x → (first_some f rs ≡ Some x → P x) → P x
+    here None g q more = more q
+    here (Some y) g q more = said r x (grind arith) (g ∙ q)
 
 pub are_past : (name : List ℕ) (rows : List Row) → HasPastRows rows → ArePast (past_spells name rows)
 are_past name rows h =
-    let r = past-range name rows h.ranges in let few = h.few in let short = r.2 in record { few = omega arith; within = r.0; lasts = r.1 }
-
--- the ranges of did rows
-did-row_range : (name : List ℕ) (r : Row) (rs : List Row) → in_past_range r ≡ true →
-    (each_within 2000000 (did_spells name rs) ≡ true) × (length (did_spells name rs) ≤ length rs) →
-    (each_within 2000000 (did_spells name (r ∷ rs)) ≡ true) × (length (did_spells name (r ∷ rs)) ≤ suc (length rs))
-did-row_range name (Did row driver w minutes) rs h (a, c) =
-    elim (cases_Bool (bytes_eq driver name)) [
-      | inl t ↦ rw t (grind (arith, nat_tests), omega arith)
-      | inr f ↦ rw f (a, omega arith)
-    ]
-did-row_range name _ rs h (a, c) = (a, omega arith)
-
-did-range : (name : List ℕ) (rows : List Row) → each_row in_past_range rows ≡ true →
-    (each_within 2000000 (did_spells name rows) ≡ true) × (length (did_spells name rows) ≤ length rows)
-did-range name [] h = (refl, omega arith)
-did-range name (r ∷ rs) h = did-row_range name r rs (first h) (did-range name rs (rest h))
-  where
-    first : each_row in_past_range (r ∷ rs) ≡ true → in_past_range r ≡ true
-    first g = grind arith
-
-    rest : each_row in_past_range (r ∷ rs) ≡ true → each_row in_past_range rs ≡ true
-    rest g = grind arith
+    let few = h.few in let short = few-said (past_in name) rows in
+    rw (← past-rows name rows) (record {
+      few = omega arith;
+      within = within-said (past_in name) (λ r s i e. (past-said name r s i e).1) rows h.ranges;
+      lasts = lasts-said name rows h.ranges;
+    })
 
 pub did_within : (name : List ℕ) (rows : List Row) → HasPastRows rows →
     (each_within 2000000 (did_spells name rows) ≡ true) × (length (did_spells name rows) ≤ 1048576)
-did_within name rows h = let r = did-range name rows h.ranges in let few = h.few in let short = r.1 in (r.0, omega arith)
-
--- a rest in its range
-rest-row_range : (name : List ℕ) (r : Row) (rs : List Row) (x : Rested) → in_past_range r ≡ true →
-    (first_of (rests_of name rs) ≡ Some x → IsRest x) → first_of (rests_of name (r ∷ rs)) ≡ Some x → IsRest x
-rest-row_range name (Rest row driver end minutes) rs x h more e =
-    elim (cases_Bool (bytes_eq driver name)) [
-      | inl t ↦ here (rw t at e)
-      | inr f ↦ more (rw f at e)
-    ]
-  where
-    here : Some (record { end = end; minutes = minutes }) ≡ Some x → IsRest x
-    here g = let same : record { end = end; minutes = minutes } ≡ x = cc in
-        rw (← same) (record { end = grind (arith, ints); minutes = (grind (arith, nat_tests), grind (arith, nat_tests)) })
-rest-row_range name _ rs x h more e = more e
+did_within name rows h =
+    let few = h.few in let short = few-said (did_in name) rows in
+    rw (← did-rows name rows) (within-said (did_in name) (did-said name) rows h.ranges, omega arith)
 
 pub is_rest : (name : List ℕ) (rows : List Row) (x : Rested) → each_row in_past_range rows ≡ true → first_of (rests_of name rows) ≡ Some x → IsRest x
-is_rest name [] x h e = cc
-is_rest name (r ∷ rs) x h e = rest-row_range name r rs x (grind arith) (λ g. is_rest name rs x (grind arith) g) e
-
--- the work of past weeks in its range
-toil-row_range : (name : List ℕ) (r : Row) (rs : List Row) (x : Toil) → in_past_range r ≡ true →
-    (first_of (toils_of name rs) ≡ Some x → IsToil x) → first_of (toils_of name (r ∷ rs)) ≡ Some x → IsToil x
-toil-row_range name (Worked row driver last weeks) rs x h more e =
-    elim (cases_Bool (bytes_eq driver name)) [
-      | inl t ↦ here (rw t at e)
-      | inr f ↦ more (rw f at e)
-    ]
-  where
-    here : Some (record { last = last; weeks = weeks }) ≡ Some x → IsToil x
-    here g = let same : record { last = last; weeks = weeks } ≡ x = cc in
-        rw (← same) (record { last = grind (arith, nat_tests); weeks = grind (arith, nat_tests) })
-toil-row_range name _ rs x h more e = more e
+is_rest name rows x h e = first-said (rest_in name) IsRest (rest-said name) rows x h (first-rest name rows ∙ e)
 
 pub is_toil : (name : List ℕ) (rows : List Row) (x : Toil) → each_row in_past_range rows ≡ true → first_of (toils_of name rows) ≡ Some x → IsToil x
-is_toil name [] x h e = cc
-is_toil name (r ∷ rs) x h e = toil-row_range name r rs x (grind arith) (λ g. is_toil name rs x (grind arith) g) e
+is_toil name rows x h e = first-said (toil_in name) IsToil (toil-said name) rows x h (first-toil name rows ∙ e)

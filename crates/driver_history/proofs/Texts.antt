@@ -1,40 +1,21 @@
 -- A text with one more row.
-use Rattle.std.proofs.Common.{◌≡◌, ℕ, ◌+◌, ◌≤◌, true, leb, inl, inr, List, [], ◌∷◌, ◌++◌, length, refl, arith, append-nil, length-append, le-leb}
+use Rattle.std.proofs.Common.{◌≡◌, ℕ, ◌+◌, ◌≤◌, true, leb, inl, inr, List, [], ◌∷◌, ◌++◌, length, refl, arith, append-nil, length-append, le-leb, Option, sym, ◌∙◌}
 use Rattle.std.proofs.lemmas.Bool.{cases_Bool}
 use Rattle.std.proofs.lemmas.Bool.Decides.{nat_tests}
+use Rattle.std.proofs.lemmas.List.Elements.{filter_map-append}
+use Rattle.std.specs.List.{filter_map}
 use Rattle.std.specs.Str.{bytes_eq}
 use Rattle.week_book.specs.declared.rows.Row.{Row}
 use Rattle.week_book.specs.declared.rows.Row.TheVariants.{Rest, Worked, Past, Did}
 use Rattle.week_book.specs.declared.rows.Word.{Word}
 use Rattle.week_book.specs.Texts.{each_row}
 use Rattle.week_book.specs.Pasts.{Spell, rests_of, toils_of, did_spells, in_past_range, each_lasts, zero_first, HasPastRows}
+use Rattle.driver_history.specs.Finding.{did_in, rest_in, toil_in}
+use Rattle.driver_history.proofs.Rows.{did-rows, rest-rows, toil-rows}
 
-rests-append : (name : List ℕ) (xs ys : List Row) → rests_of name (xs ++ ys) ≡ rests_of name xs ++ rests_of name ys
-rests-append name [] ys = refl
-rests-append name (Rest row driver end minutes ∷ xs) ys =
-    elim (cases_Bool (bytes_eq driver name)) [
-      | inl t ↦ rw (t, rests-append name xs ys) refl
-      | inr f ↦ rw (f, rests-append name xs ys) refl
-    ]
-rests-append name (_ ∷ xs) ys = rests-append name xs ys
-
-toils-append : (name : List ℕ) (xs ys : List Row) → toils_of name (xs ++ ys) ≡ toils_of name xs ++ toils_of name ys
-toils-append name [] ys = refl
-toils-append name (Worked row driver last weeks ∷ xs) ys =
-    elim (cases_Bool (bytes_eq driver name)) [
-      | inl t ↦ rw (t, toils-append name xs ys) refl
-      | inr f ↦ rw (f, toils-append name xs ys) refl
-    ]
-toils-append name (_ ∷ xs) ys = toils-append name xs ys
-
-did-append : (name : List ℕ) (xs ys : List Row) → did_spells name (xs ++ ys) ≡ did_spells name xs ++ did_spells name ys
-did-append name [] ys = refl
-did-append name (Did row driver w minutes ∷ xs) ys =
-    elim (cases_Bool (bytes_eq driver name)) [
-      | inl t ↦ rw (t, did-append name xs ys) refl
-      | inr f ↦ rw (f, did-append name xs ys) refl
-    ]
-did-append name (_ ∷ xs) ys = did-append name xs ys
+rows-append : {B : Type 0} (f : Row → Option B) (all : List Row → List B) → ((rows : List Row) → filter_map f rows ≡ all rows) →
+    (xs ys : List Row) → all (xs ++ ys) ≡ all xs ++ all ys
+rows-append f all is xs ys = sym (is (xs ++ ys)) ∙ filter_map-append f xs ys ∙ rw (is xs, is ys) refl
 
 ranges-append : (xs ys : List Row) → each_row in_past_range xs ≡ true → each_row in_past_range ys ≡ true → each_row in_past_range (xs ++ ys) ≡ true
 ranges-append [] ys h g = g
@@ -60,9 +41,9 @@ pub text-append : (xs ys : List Row) → HasPastRows xs → length xs + length y
 text-append xs ys h few a = record {
   few = omega (arith, length-append xs ys);
   ranges = ranges-append xs ys h.ranges a.ranges;
-  rests = λ (name : List ℕ). rw (rests-append name xs ys, a.rests name, append-nil (rests_of name xs)) (h.rests name);
-  toils = λ (name : List ℕ). rw (toils-append name xs ys, a.toils name, append-nil (toils_of name xs)) (h.toils name);
-  zeros = λ (name : List ℕ). rw (did-append name xs ys) (zeros-append (did_spells name xs) (did_spells name ys) (h.zeros name) (a.lasts name));
+  rests = λ (name : List ℕ). rw (rows-append (rest_in name) (rests_of name) (rest-rows name) xs ys, a.rests name, append-nil (rests_of name xs)) (h.rests name);
+  toils = λ (name : List ℕ). rw (rows-append (toil_in name) (toils_of name) (toil-rows name) xs ys, a.toils name, append-nil (toils_of name xs)) (h.toils name);
+  zeros = λ (name : List ℕ). rw (rows-append (did_in name) (did_spells name) (did-rows name) xs ys) (zeros-append (did_spells name xs) (did_spells name ys) (h.zeros name) (a.lasts name));
 }
 
 pub adds-past : (row : ℕ) (driver : List ℕ) (w : Word) (minutes : ℕ) → 1 ≤ minutes → minutes ≤ 2000000 → Adds (Past row driver w minutes ∷ [])

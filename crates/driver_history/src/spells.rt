@@ -61,14 +61,7 @@ fn past_row(row: &Row, name: &[u8]) -> Option<Spell>
 pub fn past_rows(alloc: Global, rows: &[Row], name: &[u8]) -> Result<Vec<Spell>, Memory>
     ensures { IfOk result (λ spells. spells.items ≡ past_spells name.now rows.now) }
 {
-    let mut spells = Vec::new(alloc);
-    for row in rows {
-        match past_row(row, name) {
-            Some(spell) => spells.push(spell)?,
-            None => {}
-        }
-    }
-    Ok(spells)
+    Ok(rows.iter().filter_map(|row| past_row(row, name)).collect(alloc)?)
 }
 
 /// What a did row of the driver says.
@@ -94,14 +87,7 @@ fn did_row(row: &Row, name: &[u8]) -> Option<Spell>
 pub fn did_rows(alloc: Global, rows: &[Row], name: &[u8]) -> Result<Vec<Spell>, Memory>
     ensures { IfOk result (λ spells. spells.items ≡ did_spells name.now rows.now) }
 {
-    let mut spells = Vec::new(alloc);
-    for row in rows {
-        match did_row(row, name) {
-            Some(spell) => spells.push(spell)?,
-            None => {}
-        }
-    }
-    Ok(spells)
+    Ok(rows.iter().filter_map(|row| did_row(row, name)).collect(alloc)?)
 }
 
 /// The row of the first weekly rest that another row follows.

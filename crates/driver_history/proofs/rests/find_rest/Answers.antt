@@ -1,15 +1,15 @@
 use Rattle.std.proofs.Common.{◌∙◌, sym, ap}
 use Rattle.driver_history.specs.Finding.{rest_in}
-use Rattle.driver_history.proofs.Rows.{rest-rows, some_found, none_found}
+use Rattle.driver_history.proofs.Rows.{first-rest, some_found, none_found}
 use Rattle.driver_history.proofs.rests.find_rest.Goals as goal
 
 pub returns-in-Some : goal.returns-in-Some
 returns-in-Some c =
     some_found (rest_in c.args.name.now) c.args.rows.now c.loop-row.row-index c.row-item.result c.in-Some.rest c.loop-row-test.true c.loop-row.invariant
     (ap (rest_in c.args.name.now) (sym c.row-item.is) ∙ sym c.in-Some.ensures)
-    ∙ rest-rows c.args.name.now c.args.rows.now
+    ∙ first-rest c.args.name.now c.args.rows.now
 
 pub returns : goal.returns
 returns c =
     none_found (rest_in c.args.name.now) c.args.rows.now c.loop-row.row-index c.loop-row-test.false c.loop-row.invariant
-    ∙ rest-rows c.args.name.now c.args.rows.now
+    ∙ first-rest c.args.name.now c.args.rows.now
