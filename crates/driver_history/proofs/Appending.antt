@@ -30,118 +30,11 @@ use Rattle.driver_history.proofs.Pasts.{lasts-line, cuts-past}
 use Rattle.driver_history.proofs.Bounds.{kept-off}
 use Rattle.driver_history.proofs.Weeks.{first_clock, past_left, past_clock, past-lasts, monday_left, monday_clock, monday-stands, monday-tracks, kept-past, left-parts, held-monday}
 use Rattle.driver_history.proofs.Nearby.{Alike, Held, same-fault}
-use Rattle.driver_history.proofs.Shifting.{Shifted, shifted-trans, shifted-rested, shifted-duty, closed_clock, Follows}
+use Rattle.driver_history.proofs.Shifting.{Shifted, shifted-trans, shifted-rested, shifted-watch, shifted-first}
+use Rattle.driver_history.proofs.Closing.{closed_clock, Follows}
+use Rattle.driver_history.proofs.Counting.{count-week}
+use Rattle.driver_history.proofs.Ending.{end_clock, follows-end, end-stands, moved_on, moved-stands}
 use Rattle.driver_history.proofs.Following.{follows-fold, follows-off, rests-uncut, rests-lawful}
-
-follows-first : (weekly drive work : ℕ) → Follows (no_line weekly) (first_clock weekly drive work) Plain
-follows-first weekly drive work = record {
-  shift = record {
-    off = refl;
-    day = refl;
-    since = refl;
-    period = refl;
-    half = refl;
-    drive_day = refl;
-    split = refl;
-    reduced = refl;
-    prev_weekly = refl;
-    work_run = refl;
-    work_day = refl;
-    pause_day = refl;
-  };
-  kind = refl;
-  none = refl;
-}
-
-shifted-monday : (k : Clock) → Shifted k (at_monday k)
-shifted-monday k = record {
-  off = refl;
-  day = omega (arith, ints);
-  since = omega (arith, ints);
-  period = refl;
-  half = refl;
-  drive_day = refl;
-  split = refl;
-  reduced = refl;
-  prev_weekly = refl;
-  work_run = refl;
-  work_day = refl;
-  pause_day = refl;
-}
-
-follows-past : (h : History) → Follows (past_left h) (past_clock h) (declared_by Plain h.stints.stints)
-follows-past h =
-    follows-fold h.stints.stints (no_line h.prev_weekly) (first_clock h.prev_weekly h.prev_drive (sum h.work16)) Plain (past-lasts h)
-    (rests-uncut h.stints.stints (no_line h.prev_weekly) false (λ e. e) (cuts-past false h.stints.stints h.shape))
-    (follows-first h.prev_weekly h.prev_drive (sum h.work16))
-
-follows-monday : (h : History) → Follows (monday_left h) (monday_clock h) Plain
-follows-monday h =
-    let f = follows-off (past_left h) (past_clock h) (declared_by Plain h.stints.stints) Plain h.open_off (follows-past h) in record {
-      shift = shifted-trans _ _ _ f.shift (shifted-monday (rested (past_clock h) h.open_off));
-      kind = f.kind;
-      none = f.none;
-    }
-
--- the clock at the end of the week
-abbrev pub end_clock : History → Line → Clock
-end_clock h line = rested (watch (monday_clock h) Plain line.stints) (10080 - total_of line.stints)
-
-follows-end : (h : History) (line : Line) → total_of line.stints ≤ 10080 → fault (past_of h) (week_of line) ≡ None →
-    Follows (left_of (fields_of h) line.stints) (end_clock h line) Plain
-follows-end h line t f =
-    let none : fault (past_of h) (fold add_stint nothing line.stints).minutes ≡ None =
-    sym (fault-off 0 (past_of h) (10080 - length (reached_by line.stints).minutes) Plain (reached_by line.stints).minutes) ∙ f in
-    let long = rests-lawful (past_of h) line.stints (monday_left h) (monday_clock h) Plain nothing (lasts-line line.stints line.shape) refl (monday-stands h) (monday-tracks h)
-    (kept-off (past_left h) h.open_off Plain (kept-past h)) (omega (arith, held-monday h)) none in
-    rw (left-parts h line.stints)
-    (follows-off (fold carry (monday_left h) line.stints) (watch (monday_clock h) Plain line.stints) (declared_by Plain line.stints) Plain (10080 - total_of line.stints)
-    (follows-fold line.stints (monday_left h) (monday_clock h) Plain (lasts-line line.stints line.shape) long (follows-monday h)))
-
-end-stands : (h : History) (line : Line) → Stands (end_clock h line) (past_of h) (week_of line)
-end-stands h line =
-    let all : length (reached_by line.stints).minutes ≡ total_of line.stints = length-stints line.stints nothing 0 refl in
-    rw all (stands-off_block (watch (monday_clock h) Plain line.stints) (past_of h) (10080 - total_of line.stints) Plain (reached_by line.stints).minutes
-    (stands-watch line.stints (monday_clock h) (past_of h) nothing Plain refl (lasts-line line.stints line.shape) (monday-stands h)))
-
--- a clock at the next Monday
-abbrev pub moved_on : Clock → ℕ → ℕ → Clock
-moved_on k drive work = record (at_monday k) { prev_drive = drive; work_before = work }
-
-moved-stands : (k : Clock) (past : Past) (week : Minutes) (drive work : ℕ) → Stands k past week →
-    Stands (moved_on k drive work) (record { minutes = week ++ past.minutes; prev_weekly = past.prev_weekly; prev_drive = drive; work_before = work }) []
-moved-stands k past week drive work s = record {
-  at = refl;
-  off = s.off;
-  day_from = let d = s.day_from in omega (arith, ints, d, s.at);
-  rest_from = let d = s.rest_from in omega (arith, ints, d, s.at);
-  period = s.period;
-  half = s.half;
-  drive_day = s.drive_day;
-  long_days = refl;
-  split = s.split;
-  reduced = s.reduced;
-  prev_weekly = s.prev_weekly;
-  work_run = s.work_run;
-  work_day = s.work_day;
-  pause_day = s.pause_day;
-  drive_week = refl;
-  work_week = refl;
-  prev_drive = refl;
-  work_before = refl;
-}
-
--- two clocks that are one but for a shift stay so
-shifted-block : (x y : Clock) (d : Kind) (m : Mark) (n : ℕ) → Shifted x y → Shifted (after_block x d m n) (after_block y d m n)
-shifted-block x y d m n s =
-    elim (cases_Bool (is_off m)) [
-      | inl t ↦ rw t (shifted-rested x y n n refl s)
-      | inr f ↦ rw f (shifted-duty x y d m n s)
-    ]
-
-shifted-watch : (ss : List Stint) (x y : Clock) (d : Kind) → Shifted x y → Shifted (watch x d ss) (watch y d ss)
-shifted-watch [] x y d s = s
-shifted-watch (t ∷ ss) x y d s = shifted-watch ss _ _ (declared_after t) (shifted-block x y d t.mark t.minutes s)
 
 -- a clock keeps what it says of the weeks before
 record Keeps (x y : Clock) : Type 0 where
@@ -162,48 +55,20 @@ keeps-watch (s ∷ ss) k d =
     let all = keeps-watch ss (after_block k d s.mark s.minutes) (declared_after s) in
     record { drive = all.drive ∙ one.drive; work = all.work ∙ one.work }
 
--- the minutes of some marks in a week
-count-stretch : (test : Mark → Bool) (n : ℕ) (mark : Mark) (kind : Kind) (w : Minutes) →
-    count test (stretch n mark kind w) ≡ count test w + cond (test mark) n 0
-count-stretch test zero mark kind w = elim (cases_Bool (test mark)) [ inl t ↦ rw t (omega arith) | inr f ↦ rw f (omega arith) ]
-count-stretch test (suc n) mark kind w =
-    let more = count-stretch test n mark kind w in
-    elim (cases_Bool (test mark)) [ inl t ↦ let m = rw t at more in rw t (omega arith) | inr f ↦ let m = rw f at more in rw f (omega arith) ]
-
-count-block : (test : Mark → Bool) (m : Mark) (n : ℕ) (kind : Kind) (r : Reached) →
-    count test (add_block m n kind r).minutes ≡ count test r.minutes + cond (test m) n 0
-count-block test Off n kind r = count-stretch test n Off Plain r.minutes
-count-block test Drive n kind r = count-stretch test n Drive r.declared r.minutes
-count-block test Work n kind r = count-stretch test n Work r.declared r.minutes
-count-block test Ready n kind r = count-stretch test n Ready r.declared r.minutes
-
-count-fold : (test : Mark → Bool) (ss : List Stint) (r : Reached) →
-    count test (fold add_stint r ss).minutes ≡ count test r.minutes + sum_by (λ (s : Stint). cond (test s.mark) s.minutes 0) ss
-count-fold test [] r = omega arith
-count-fold test (s ∷ ss) r =
-    omega (arith, count-fold test ss (add_stint r s), count-block test s.mark s.minutes s.kind r, sum_by-cons (λ (x : Stint). cond (test x.mark) x.minutes 0) s ss)
-
-count-week : (test : Mark → Bool) (line : Line) → test Off ≡ false →
-    count test (week_of line) ≡ sum_by (λ (s : Stint). cond (test s.mark) s.minutes 0) line.stints
-count-week test line f =
-    let tail = count-stretch test (10080 - length (reached_by line.stints).minutes) Off Plain (reached_by line.stints).minutes in
-    let none = rw f at tail in
-    none ∙ (let all = count-fold test line.stints nothing in omega arith)
-
 as_good : (x y : Clock) (drive work : ℕ) → Shifted x y → x.prev_drive ≡ drive → x.work_before ≡ work → Alike (at_monday x) (moved_on y drive work)
 as_good x y drive work s d w =
-    let off = s.off in let day = s.day in let since = s.since in let a = s.period in let b = s.drive_day in let c = s.reduced in let e = s.prev_weekly in
-    let f = s.work_run in let g = s.work_day in let i = s.pause_day in record {
+    let off = s.off in let day = s.day in let since = s.since in let a = s.counts.period in let b = s.counts.drive_day in let c = s.counts.reduced in let e = s.counts.prev_weekly in
+    let f = s.counts.work_run in let g = s.counts.work_day in let i = s.counts.pause_day in record {
       to = record {
         at = refl;
         off = s.off;
         day_from = omega (arith, ints);
         rest_from = omega (arith, ints);
         period = omega arith;
-        half = s.half;
+        half = s.counts.half;
         drive_day = omega arith;
         long_days = omega arith;
-        split = λ t. s.split ∙ t;
+        split = λ t. s.counts.split ∙ t;
         reduced = omega arith;
         prev_weekly = λ (l : 2700 ≤ y.prev_weekly). omega arith;
         work_run = omega arith;
@@ -220,10 +85,10 @@ as_good x y drive work s d w =
         day_from = omega (arith, ints);
         rest_from = omega (arith, ints);
         period = omega arith;
-        half = sym s.half;
+        half = sym s.counts.half;
         drive_day = omega arith;
         long_days = omega arith;
-        split = λ t. sym s.split ∙ t;
+        split = λ t. sym s.counts.split ∙ t;
         reduced = omega arith;
         prev_weekly = λ (l : 2700 ≤ x.prev_weekly). omega arith;
         work_run = omega arith;
@@ -245,12 +110,12 @@ held-run p q k o drive work s t z l d w =
       a_off = omega arith;
       b_off = omega arith;
       day = omega (arith, ints);
-      drive_day = s.drive_day ∙ t.drive_day;
+      drive_day = s.counts.drive_day ∙ t.counts.drive_day;
       long_days = refl;
-      split = s.split ∙ t.split;
-      reduced = s.reduced ∙ t.reduced;
-      prev_weekly = s.prev_weekly ∙ t.prev_weekly;
-      work_day = s.work_day ∙ t.work_day;
+      split = s.counts.split ∙ t.counts.split;
+      reduced = s.counts.reduced ∙ t.counts.reduced;
+      prev_weekly = s.counts.prev_weekly ∙ t.counts.prev_weekly;
+      work_day = s.counts.work_day ∙ t.counts.work_day;
       drive_week = refl;
       work_week = refl;
       prev_drive = d;
@@ -270,21 +135,9 @@ near-next : (next : History) (c : Left) (k : Clock) (drive work : ℕ) → Says 
 near-next next c k drive work y f = by_run (cases_lt 20160 c.open_off)
   where
     shift : Shifted (past_clock next) (closed_clock c)
-    shift = rw (y.prev, y.stints) (shifted-watch (all_stints c) (first_clock c.prev_weekly next.prev_drive (sum next.work16)) (first_clock c.prev_weekly 0 0) Plain
-        (record {
-          off = refl;
-          day = refl;
-          since = refl;
-          period = refl;
-          half = refl;
-          drive_day = refl;
-          split = refl;
-          reduced = refl;
-          prev_weekly = refl;
-          work_run = refl;
-          work_day = refl;
-          pause_day = refl;
-        }))
+    shift = rw (y.prev, y.stints)
+        (shifted-watch (all_stints c) (first_clock c.prev_weekly next.prev_drive (sum next.work16)) (first_clock c.prev_weekly 0 0) Plain
+        (shifted-first c.prev_weekly next.prev_drive (sum next.work16) 0 0))
 
     keeps : Keeps (past_clock next) (first_clock next.prev_weekly next.prev_drive (sum next.work16))
     keeps = keeps-watch next.stints.stints (first_clock next.prev_weekly next.prev_drive (sum next.work16)) Plain

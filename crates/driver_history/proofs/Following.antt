@@ -20,7 +20,8 @@ use Rattle.driver_history.proofs.Shapes.{same_is, some_minutes, no_minutes, all-
 use Rattle.driver_history.proofs.Watching.{Tracks, tracks-carry, after_block, declared_after, watch, declared_by, each_lasts, first_lasts, rest_lasts, Lasts, stands-stint, declared-add_stint}
 use Rattle.driver_history.proofs.Bounds.{kept-carry, none_before}
 use Rattle.driver_history.proofs.Pasts.{cuts_none, ends-carry}
-use Rattle.driver_history.proofs.Shifting.{shifted-trans, shifted-rested, rested-rested, shifted-duty, closed_by, closed_clock, closed-duty, closed-rest, declared-append, fresh-shift, Follows, follows-closed, follows-next, follows-join}
+use Rattle.driver_history.proofs.Shifting.{shifted-trans, shifted-rested, rested-rested, shifted-duty}
+use Rattle.driver_history.proofs.Closing.{closed_by, closed_clock, closed-duty, closed-rest, declared-append, fresh-shift, Follows, follows-closed, follows-next, follows-join}
 
 weekly_kind : (kind : Kind) → is_weekly kind ≡ true → kind ≡ Weekly
 weekly_kind Plain h = cc

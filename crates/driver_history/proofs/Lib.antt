@@ -12,5 +12,8 @@ pub mod RowBounds
 pub mod Texts
 pub mod Nearby
 pub mod Shifting
+pub mod Closing
 pub mod Following
+pub mod Counting
+pub mod Ending
 pub mod Appending

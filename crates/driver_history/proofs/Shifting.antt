@@ -1,5 +1,6 @@
--- The clock of what is left of a line is the clock of the line, moved.
-use Rattle.std.proofs.Common.{◌≡◌, ℕ, ◌+◌, ◌≤◌, Bool, true, false, cond, ◌&&◌, leb, List, [], ◌∷◌, ◌++◌, refl, arith, sym, ◌∙◌, pos, ℤ, ◌-ℤ◌, min, le-leb, subst}
+-- Two clocks that are one but for where the line began.
+use Rattle.std.proofs.Common.{◌≡◌, ℕ, ◌+◌, ◌≤◌, Bool, true, false, cond, ◌&&◌, leb, List, [], ◌∷◌, ◌++◌, refl, arith, sym, ◌∙◌, pos, ℤ, ◌-ℤ◌, min, le-leb, subst, inl, inr}
+use Rattle.std.proofs.lemmas.Bool.{cases_Bool}
 use Rattle.std.proofs.lemmas.Int.{ints}
 use Rattle.minute_line.specs.declared.marks.Mark.{Mark}
 use Rattle.minute_line.specs.declared.marks.Kind.{Kind}
@@ -12,11 +13,32 @@ use Rattle.driver_history.specs.Carrying.{Left, duty, rest, all_stints}
 use Rattle.driver_history.proofs.Watching.{after_block, declared_after, watch, declared_by}
 use Rattle.driver_history.proofs.Weeks.{first_clock}
 
--- equal but for where the line began, and for the week's own counts
-pub record Shifted (x y : Clock) : Type 0 where
-  pub off : x.off ≡ y.off
-  pub day : (pos x.at -ℤ x.day_from) ≡ (pos y.at -ℤ y.day_from)
-  pub since : (pos x.at -ℤ x.rest_from) ≡ (pos y.at -ℤ y.rest_from)
+-- what a clock counts, but for its spans, its open run and the week's own counts
+pub record Tally : Type 0 where
+  pub period : ℕ
+  pub half : Bool
+  pub drive_day : ℕ
+  pub split : Bool
+  pub reduced : ℕ
+  pub prev_weekly : ℕ
+  pub work_run : ℕ
+  pub work_day : ℕ
+  pub pause_day : ℕ
+
+abbrev pub tally : Clock → Tally
+tally k = record {
+  period = k.period;
+  half = k.half;
+  drive_day = k.drive_day;
+  split = k.split;
+  reduced = k.reduced;
+  prev_weekly = k.prev_weekly;
+  work_run = k.work_run;
+  work_day = k.work_day;
+  pause_day = k.pause_day;
+}
+
+pub record SameTally (x y : Tally) : Type 0 where
   pub period : x.period ≡ y.period
   pub half : x.half ≡ y.half
   pub drive_day : x.drive_day ≡ y.drive_day
@@ -27,20 +49,32 @@ pub record Shifted (x y : Clock) : Type 0 where
   pub work_day : x.work_day ≡ y.work_day
   pub pause_day : x.pause_day ≡ y.pause_day
 
+pub same-tally : (x : Tally) → SameTally x x
+same-tally x = record { period = refl; half = refl; drive_day = refl; split = refl; reduced = refl; prev_weekly = refl; work_run = refl; work_day = refl; pause_day = refl }
+
+-- equal but for where the line began, and for the week's own counts
+pub record Shifted (x y : Clock) : Type 0 where
+  pub off : x.off ≡ y.off
+  pub day : (pos x.at -ℤ x.day_from) ≡ (pos y.at -ℤ y.day_from)
+  pub since : (pos x.at -ℤ x.rest_from) ≡ (pos y.at -ℤ y.rest_from)
+  pub counts : SameTally (tally x) (tally y)
+
 pub shifted-trans : (x y z : Clock) → Shifted x y → Shifted y z → Shifted x z
 shifted-trans x y z s t = record {
   off = s.off ∙ t.off;
   day = s.day ∙ t.day;
   since = s.since ∙ t.since;
-  period = s.period ∙ t.period;
-  half = s.half ∙ t.half;
-  drive_day = s.drive_day ∙ t.drive_day;
-  split = s.split ∙ t.split;
-  reduced = s.reduced ∙ t.reduced;
-  prev_weekly = s.prev_weekly ∙ t.prev_weekly;
-  work_run = s.work_run ∙ t.work_run;
-  work_day = s.work_day ∙ t.work_day;
-  pause_day = s.pause_day ∙ t.pause_day;
+  counts = record {
+    period = s.counts.period ∙ t.counts.period;
+    half = s.counts.half ∙ t.counts.half;
+    drive_day = s.counts.drive_day ∙ t.counts.drive_day;
+    split = s.counts.split ∙ t.counts.split;
+    reduced = s.counts.reduced ∙ t.counts.reduced;
+    prev_weekly = s.counts.prev_weekly ∙ t.counts.prev_weekly;
+    work_run = s.counts.work_run ∙ t.counts.work_run;
+    work_day = s.counts.work_day ∙ t.counts.work_day;
+    pause_day = s.counts.pause_day ∙ t.counts.pause_day;
+  };
 }
 
 pub shifted-rested : (x y : Clock) (n k : ℕ) → n ≡ k → Shifted x y → Shifted (rested x n) (rested y k)
@@ -48,15 +82,7 @@ shifted-rested x y n k e s = record {
   off = let o = s.off in omega arith;
   day = let d = s.day in omega (arith, ints);
   since = let d = s.since in omega (arith, ints);
-  period = s.period;
-  half = s.half;
-  drive_day = s.drive_day;
-  split = s.split;
-  reduced = s.reduced;
-  prev_weekly = s.prev_weekly;
-  work_run = s.work_run;
-  work_day = s.work_day;
-  pause_day = s.pause_day;
+  counts = s.counts;
 }
 
 -- minutes of rest in two parts
@@ -65,15 +91,7 @@ rested-rested x a b = record {
   off = omega arith;
   day = omega (arith, ints);
   since = omega (arith, ints);
-  period = refl;
-  half = refl;
-  drive_day = refl;
-  split = refl;
-  reduced = refl;
-  prev_weekly = refl;
-  work_run = refl;
-  work_day = refl;
-  pause_day = refl;
+  counts = same-tally (tally x);
 }
 
 from-shift : (b : Bool) (xa ya n : ℕ) (xf yf : ℤ) → (pos xa -ℤ xf) ≡ (pos ya -ℤ yf) →
@@ -86,15 +104,17 @@ shifted-duty x y kind m n s = record {
   off = refl;
   day = rw s.off (from-shift (rest_here y kind) x.at y.at n x.day_from y.day_from s.day);
   since = rw s.off (from-shift (leb 1 y.off && is_weekly kind) x.at y.at n x.rest_from y.rest_from s.since);
-  period = rw (s.off, s.half, s.period) refl;
-  half = rw (s.off, s.half) refl;
-  drive_day = rw (s.off, s.drive_day) refl;
-  split = rw (s.off, s.split) refl;
-  reduced = rw (s.off, s.split, s.day, s.reduced) refl;
-  prev_weekly = rw (s.off, s.prev_weekly) refl;
-  work_run = rw (s.off, s.work_run) refl;
-  work_day = rw (s.off, s.work_day) refl;
-  pause_day = rw (s.off, s.pause_day) refl;
+  counts = record {
+    period = rw (s.off, s.counts.half, s.counts.period) refl;
+    half = rw (s.off, s.counts.half) refl;
+    drive_day = rw (s.off, s.counts.drive_day) refl;
+    split = rw (s.off, s.counts.split) refl;
+    reduced = rw (s.off, s.counts.split, s.day, s.counts.reduced) refl;
+    prev_weekly = rw (s.off, s.counts.prev_weekly) refl;
+    work_run = rw (s.off, s.counts.work_run) refl;
+    work_day = rw (s.off, s.counts.work_day) refl;
+    pause_day = rw (s.off, s.counts.pause_day) refl;
+  };
 }
 
 -- where no run is open, its kind means nothing
@@ -106,141 +126,34 @@ pub shifted-closed : (x y : Clock) (a b : Kind) (m : Mark) (n : ℕ) → x.off �
 shifted-closed x y a b m n z s =
     subst (λ (e : Clock). Shifted (ticked e m n) (ticked (run_ended y b) m n)) (sym (closed-kind x a b z)) (shifted-duty x y b m n s)
 
-so-add : (b : Bool) (a n p : ℕ) → if_so b (a + n) + p ≡ if_so b n + (if_so b a + p)
-so-add true a n p = omega arith
-so-add false a n p = omega arith
-
--- a block in two parts
-join-ticked : (e : Clock) (m : Mark) (a n : ℕ) (k : Kind) → e.off ≡ 0 → e.pause_day ≤ 45 →
-    Shifted (ticked e m (a + n)) (ticked (run_ended (ticked e m a) k) m n)
-join-ticked e m a n k z p = record {
-  off = z;
-  day = rw z (omega (arith, ints));
-  since = rw z (omega (arith, ints));
-  period = rw z (so-add (is_drive m) a n e.period);
-  half = rw z refl;
-  drive_day = rw z (so-add (is_drive m) a n e.drive_day);
-  split = rw z refl;
-  reduced = rw z (omega arith);
-  prev_weekly = rw z refl;
-  work_run = rw z (so-add (is_working m) a n e.work_run);
-  work_day = rw z (so-add (is_working m) a n e.work_day);
-  pause_day = rw z (omega arith);
-}
-
-pause-most : (x : Clock) (k : Kind) → (run_ended x k).pause_day ≤ 45
-pause-most x k = most (rest_here x k) _
-  where
-    most : (b : Bool) (n : ℕ) → cond b 0 (min 45 n) ≤ 45
-    most true n = omega arith
-    most false n = omega arith
-
--- after a weekly rest each span begins afresh
-pub fresh-shift : (k : Clock) (o : ℕ) (m : Mark) (n : ℕ) → o ≡ k.off → 1440 ≤ k.off →
-    Shifted (ticked (run_ended (first_clock o 0 0) Plain) m n) (ticked (run_ended k Weekly) m n)
-fresh-shift k o m n e l =
-    let one : leb 1 k.off ≡ true = le-leb 1 k.off (omega arith) in
-    let pause : leb 15 k.off ≡ true = le-leb 15 k.off (omega arith) in
-    let break : leb 45 k.off ≡ true = le-leb 45 k.off (omega arith) in record {
-      off = refl;
-      day = rw one (omega (arith, ints));
-      since = rw one (omega (arith, ints));
-      period = rw break refl;
-      half = rw break refl;
-      drive_day = rw one refl;
-      split = rw one refl;
-      reduced = rw one (omega arith);
-      prev_weekly = rw one e;
-      work_run = rw pause refl;
-      work_day = rw one refl;
-      pause_day = rw one (omega arith);
-    }
-
-pub watch-append : (xs ys : List Stint) (k : Clock) (d : Kind) → watch k d (xs ++ ys) ≡ watch (watch k d xs) (declared_by d xs) ys
-watch-append [] ys k d = refl
-watch-append (x ∷ xs) ys k d = watch-append xs ys (after_block k d x.mark x.minutes) (declared_after x)
-
-pub declared-append : (xs ys : List Stint) (d : Kind) → declared_by d (xs ++ ys) ≡ declared_by (declared_by d xs) ys
-declared-append [] ys d = refl
-declared-append (x ∷ xs) ys d = declared-append xs ys (declared_after x)
-
--- the clock of some stints after a weekly rest
-abbrev pub closed_by : ℕ → List Stint → Clock
-closed_by weekly stints = watch (first_clock weekly 0 0) Plain stints
-
-abbrev pub closed_clock : Left → Clock
-closed_clock c = closed_by c.prev_weekly (all_stints c)
-
-pub closed-duty : (weekly : ℕ) (all : List Stint) (m : Mark) (n : ℕ) → is_off m ≡ false →
-    closed_by weekly (all ++ duty m n ∷ []) ≡ ticked (run_ended (closed_by weekly all) (declared_by Plain all)) m n
-closed-duty weekly all m n f = watch-append all (duty m n ∷ []) (first_clock weekly 0 0) Plain ∙ rw f refl
-
-pub closed-rest : (weekly : ℕ) (all : List Stint) (o : ℕ) (kind : Kind) → closed_by weekly (all ++ rest o kind ∷ []) ≡ rested (closed_by weekly all) o
-closed-rest weekly all o kind = watch-append all (rest o kind ∷ []) (first_clock weekly 0 0) Plain
-
--- the clock of what is left, with its open run, is this clock moved
-pub record Follows (c : Left) (k : Clock) (d : Kind) : Type 0 where
-  pub shift : Shifted (rested (closed_clock c) c.open_off) k
-  pub kind : d ≡ c.declared
-  pub none : (closed_clock c).off ≡ 0
-
-unrested : (x k : Clock) (o : ℕ) → o ≡ 0 → Shifted (rested x o) k → Shifted x k
+pub unrested : (x k : Clock) (o : ℕ) → o ≡ 0 → Shifted (rested x o) k → Shifted x k
 unrested x k o z s = record {
   off = let e = s.off in omega arith;
   day = let e = s.day in omega (arith, ints);
   since = let e = s.since in omega (arith, ints);
-  period = s.period;
-  half = s.half;
-  drive_day = s.drive_day;
-  split = s.split;
-  reduced = s.reduced;
-  prev_weekly = s.prev_weekly;
-  work_run = s.work_run;
-  work_day = s.work_day;
-  pause_day = s.pause_day;
+  counts = s.counts;
 }
 
-rest-none : (x k : Clock) (o : ℕ) → o ≡ 0 → Shifted x k → Shifted (rested x o) k
+pub rest-none : (x k : Clock) (o : ℕ) → o ≡ 0 → Shifted x k → Shifted (rested x o) k
 rest-none x k o z s = record {
   off = let e = s.off in omega arith;
   day = let e = s.day in omega (arith, ints);
   since = let e = s.since in omega (arith, ints);
-  period = s.period;
-  half = s.half;
-  drive_day = s.drive_day;
-  split = s.split;
-  reduced = s.reduced;
-  prev_weekly = s.prev_weekly;
-  work_run = s.work_run;
-  work_day = s.work_day;
-  pause_day = s.pause_day;
+  counts = s.counts;
 }
 
--- a state with no open run, by the clock of its stints
-pub follows-closed : (c : Left) (k y : Clock) → closed_clock c ≡ y → c.open_off ≡ 0 → c.declared ≡ Plain → y.off ≡ 0 → Shifted y k → Follows c k Plain
-follows-closed c k y e z p n s = record {
-  shift = rw e (rest-none y k c.open_off z s);
-  kind = sym p;
-  none = rw e n;
-}
+-- two clocks that are one but for a shift stay so
+shifted-block : (x y : Clock) (d : Kind) (m : Mark) (n : ℕ) → Shifted x y → Shifted (after_block x d m n) (after_block y d m n)
+shifted-block x y d m n s =
+    elim (cases_Bool (is_off m)) [
+      | inl t ↦ rw t (shifted-rested x y n n refl s)
+      | inr f ↦ rw f (shifted-duty x y d m n s)
+    ]
 
--- a block that joins none
-pub follows-next : (c next : Left) (k : Clock) (d : Kind) (m : Mark) (n : ℕ) → is_off m ≡ false → Follows c k d → c.open_off ≡ 0 →
-    next.prev_weekly ≡ c.prev_weekly → all_stints next ≡ all_stints c ++ duty m n ∷ [] → next.open_off ≡ 0 → next.declared ≡ Plain →
-    Follows next (ticked (run_ended k d) m n) Plain
-follows-next c next k d m n f h z p a o q =
-    follows-closed next _ (ticked (run_ended (closed_clock c) (declared_by Plain (all_stints c))) m n)
-    (rw (p, a) (closed-duty c.prev_weekly (all_stints c) m n f)) o q refl
-    (shifted-closed (closed_clock c) k (declared_by Plain (all_stints c)) d m n h.none (unrested (closed_clock c) k c.open_off z h.shift))
+pub shifted-watch : (ss : List Stint) (x y : Clock) (d : Kind) → Shifted x y → Shifted (watch x d ss) (watch y d ss)
+shifted-watch [] x y d s = s
+shifted-watch (t ∷ ss) x y d s = shifted-watch ss _ _ (declared_after t) (shifted-block x y d t.mark t.minutes s)
 
--- a block that lengthens the last one
-pub follows-join : (c next : Left) (k : Clock) (d : Kind) (m : Mark) (n : ℕ) → is_off m ≡ false → Follows c k d → c.open_off ≡ 0 →
-    next.prev_weekly ≡ c.prev_weekly → all_stints c ≡ c.stints ++ duty m c.minutes ∷ [] → all_stints next ≡ c.stints ++ duty m (c.minutes + n) ∷ [] →
-    next.open_off ≡ 0 → next.declared ≡ Plain → Follows next (ticked (run_ended k d) m n) Plain
-follows-join c next k d m n f h z p was a o q =
-    let e : Clock = run_ended (closed_by c.prev_weekly c.stints) (declared_by Plain c.stints) in
-    let before : closed_clock c ≡ ticked e m c.minutes = rw was (closed-duty c.prev_weekly c.stints m c.minutes f) in
-    let x : Shifted (ticked e m c.minutes) k = rw before at (unrested (closed_clock c) k c.open_off z h.shift) in
-    follows-closed next _ (ticked e m (c.minutes + n)) (rw (p, a) (closed-duty c.prev_weekly c.stints m (c.minutes + n) f)) o q refl
-    (shifted-trans _ _ _ (join-ticked e m c.minutes n Plain refl (pause-most (closed_by c.prev_weekly c.stints) (declared_by Plain c.stints)))
-    (shifted-closed (ticked e m c.minutes) k Plain d m n refl x))
+-- what is known of the weeks before changes nothing else
+pub shifted-first : (weekly a b drive work : ℕ) → Shifted (first_clock weekly a b) (first_clock weekly drive work)
+shifted-first weekly a b drive work = record { off = refl; day = refl; since = refl; counts = same-tally (tally (first_clock weekly a b)) }
