@@ -1,40 +1,32 @@
 -- Judging after an advance is judging on the whole appended line.
-use Rattle.std.proofs.Common.{◌≡◌, ℕ, ◌+◌, ◌-◌, ◌≤◌, ◌<◌, Bool, false, cond, inl, inr, ◌⊎◌, List, [], ◌∷◌, ◌++◌, length, refl, fold, arith, suc, zero, sym, ◌∙◌, ap, min, None, drop, sum, sum_by}
+use Rattle.std.proofs.Common.{◌≡◌, ℕ, ◌≤◌, ◌<◌, inl, inr, ◌⊎◌, List, [], ◌∷◌, ◌++◌, refl, arith, sym, ◌∙◌, ap, min, None, drop, sum}
 use Rattle.std.proofs.lemmas.Bool.{cases_Bool, cases_lt}
 use Rattle.std.proofs.lemmas.Int.{ints}
-use Rattle.std.proofs.lemmas.List.Sums.{sum_by-cons}
 use Rattle.minute_line.specs.declared.marks.Mark.{Mark}
-use Rattle.minute_line.specs.declared.marks.Mark.TheVariants.{Drive, Work, Ready, Off}
 use Rattle.minute_line.specs.declared.marks.Kind.{Kind}
 use Rattle.minute_line.specs.declared.marks.Kind.TheVariants.{Plain}
 use Rattle.minute_line.specs.declared.marks.Stint.{Stint}
 use Rattle.minute_line.specs.declared.lines.Line.{Line}
 use Rattle.minute_line.specs.declared.lines.History.{History}
 use Rattle.minute_line.specs.Marks.{is_off, is_drive, is_working}
-use Rattle.minute_line.specs.Minutes.{Minutes, Reached, stretch, add_block, add_stint, nothing, reached_by, total_of}
+use Rattle.minute_line.specs.Minutes.{Minutes, total_of}
 use Rattle.minute_line.specs.Histories.{Fields, fields_of}
 use Rattle.hours_rules.specs.declared.clocks.Clock.{Clock}
 use Rattle.hours_rules.specs.Counts.{count}
-use Rattle.hours_rules.specs.Rules.{Past, fault}
-use Rattle.hours_rules.specs.Standing.{Stands}
+use Rattle.hours_rules.specs.Rules.{fault}
 use Rattle.hours_rules.specs.Machine.{at_monday, rested}
 use Rattle.hours_rules.specs.Verdicts.{past_of, week_of}
-use Rattle.hours_rules.proofs.Blocks.{stands-off_block}
-use Rattle.hours_rules.proofs.Stints.{length-stints}
-use Rattle.hours_rules.proofs.Faults.{fault-off}
-use Rattle.driver_history.specs.Carrying.{Left, no_line, all_stints, carry}
+use Rattle.driver_history.specs.Carrying.{Left, all_stints}
 use Rattle.driver_history.specs.Advancing.{left_of, advance_of}
 use Rattle.driver_history.specs.Laws.{appended_past}
-use Rattle.driver_history.proofs.Watching.{after_block, declared_after, watch, declared_by, stands-watch}
-use Rattle.driver_history.proofs.Pasts.{lasts-line, cuts-past}
-use Rattle.driver_history.proofs.Bounds.{kept-off}
-use Rattle.driver_history.proofs.Weeks.{first_clock, past_left, past_clock, past-lasts, monday_left, monday_clock, monday-stands, monday-tracks, kept-past, left-parts, held-monday}
-use Rattle.driver_history.proofs.Nearby.{Alike, Held, same-fault}
+use Rattle.driver_history.proofs.Watching.{after_block, declared_after, watch}
+use Rattle.driver_history.proofs.Weeks.{first_clock, past_clock, monday_clock, monday-stands}
+use Rattle.driver_history.proofs.LongRuns.{Held}
+use Rattle.driver_history.proofs.Nearby.{Alike, same-fault}
 use Rattle.driver_history.proofs.Shifting.{Shifted, shifted-trans, shifted-rested, shifted-watch, shifted-first}
 use Rattle.driver_history.proofs.Closing.{closed_clock, Follows}
 use Rattle.driver_history.proofs.Counting.{count-week}
 use Rattle.driver_history.proofs.Ending.{end_clock, follows-end, end-stands, moved_on, moved-stands}
-use Rattle.driver_history.proofs.Following.{follows-fold, follows-off, rests-uncut, rests-lawful}
 
 -- a clock keeps what it says of the weeks before
 record Keeps (x y : Clock) : Type 0 where

@@ -1,17 +1,17 @@
 -- The clock of what is left of a line is the clock of the line, moved.
-use Rattle.std.proofs.Common.{◌≡◌, ℕ, ◌+◌, ◌≤◌, Bool, true, false, cond, ◌&&◌, leb, List, [], ◌∷◌, ◌++◌, refl, arith, sym, ◌∙◌, pos, ℤ, ◌-ℤ◌, min, le-leb, subst}
+use Rattle.std.proofs.Common.{◌≡◌, ℕ, ◌+◌, ◌≤◌, Bool, true, false, cond, leb, List, [], ◌∷◌, ◌++◌, refl, arith, sym, ◌∙◌, min, le-leb}
 use Rattle.std.proofs.lemmas.Int.{ints}
 use Rattle.minute_line.specs.declared.marks.Mark.{Mark}
 use Rattle.minute_line.specs.declared.marks.Kind.{Kind}
 use Rattle.minute_line.specs.declared.marks.Kind.TheVariants.{Plain, Weekly}
 use Rattle.minute_line.specs.declared.marks.Stint.{Stint}
-use Rattle.minute_line.specs.Marks.{is_off, is_weekly, is_drive, is_working}
+use Rattle.minute_line.specs.Marks.{is_off, is_drive, is_working}
 use Rattle.hours_rules.specs.declared.clocks.Clock.{Clock}
 use Rattle.hours_rules.specs.Machine.{run_ended, ticked, rested, rest_here, if_so}
 use Rattle.driver_history.specs.Carrying.{Left, duty, rest, all_stints}
 use Rattle.driver_history.proofs.Watching.{after_block, declared_after, watch, declared_by}
 use Rattle.driver_history.proofs.Weeks.{first_clock}
-use Rattle.driver_history.proofs.Shifting.{Shifted, shifted-trans, shifted-duty, shifted-closed, unrested, rest-none}
+use Rattle.driver_history.proofs.Shifting.{Shifted, shifted-trans, shifted-closed, unrested, rest-none}
 
 so-add : (b : Bool) (a n p : ℕ) → if_so b (a + n) + p ≡ if_so b n + (if_so b a + p)
 so-add true a n p = omega arith

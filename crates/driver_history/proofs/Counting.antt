@@ -1,7 +1,6 @@
 -- The minutes of some marks in a week, by its line.
-use Rattle.std.proofs.Common.{◌≡◌, ℕ, ◌+◌, ◌-◌, ◌≤◌, ◌<◌, Bool, false, cond, inl, inr, ◌⊎◌, List, [], ◌∷◌, ◌++◌, length, refl, fold, arith, suc, zero, sym, ◌∙◌, ap, min, None, drop, sum, sum_by}
-use Rattle.std.proofs.lemmas.Bool.{cases_Bool, cases_lt}
-use Rattle.std.proofs.lemmas.Int.{ints}
+use Rattle.std.proofs.Common.{◌≡◌, ℕ, ◌+◌, ◌-◌, Bool, false, cond, inl, inr, List, [], ◌∷◌, length, fold, arith, suc, zero, ◌∙◌, sum_by}
+use Rattle.std.proofs.lemmas.Bool.{cases_Bool}
 use Rattle.std.proofs.lemmas.List.Sums.{sum_by-cons}
 use Rattle.minute_line.specs.declared.marks.Mark.{Mark}
 use Rattle.minute_line.specs.declared.marks.Mark.TheVariants.{Drive, Work, Ready, Off}
@@ -9,28 +8,9 @@ use Rattle.minute_line.specs.declared.marks.Kind.{Kind}
 use Rattle.minute_line.specs.declared.marks.Kind.TheVariants.{Plain}
 use Rattle.minute_line.specs.declared.marks.Stint.{Stint}
 use Rattle.minute_line.specs.declared.lines.Line.{Line}
-use Rattle.minute_line.specs.declared.lines.History.{History}
-use Rattle.minute_line.specs.Marks.{is_off, is_drive, is_working}
-use Rattle.minute_line.specs.Minutes.{Minutes, Reached, stretch, add_block, add_stint, nothing, reached_by, total_of}
-use Rattle.minute_line.specs.Histories.{Fields, fields_of}
-use Rattle.hours_rules.specs.declared.clocks.Clock.{Clock}
+use Rattle.minute_line.specs.Minutes.{Minutes, Reached, stretch, add_block, add_stint, nothing, reached_by}
 use Rattle.hours_rules.specs.Counts.{count}
-use Rattle.hours_rules.specs.Rules.{Past, fault}
-use Rattle.hours_rules.specs.Standing.{Stands}
-use Rattle.hours_rules.specs.Machine.{at_monday, rested}
-use Rattle.hours_rules.specs.Verdicts.{past_of, week_of}
-use Rattle.hours_rules.proofs.Blocks.{stands-off_block}
-use Rattle.hours_rules.proofs.Stints.{length-stints}
-use Rattle.hours_rules.proofs.Faults.{fault-off}
-use Rattle.driver_history.specs.Carrying.{Left, no_line, all_stints, carry}
-use Rattle.driver_history.specs.Advancing.{left_of, advance_of}
-use Rattle.driver_history.specs.Laws.{appended_past}
-use Rattle.driver_history.proofs.Watching.{after_block, declared_after, watch, declared_by, stands-watch}
-use Rattle.driver_history.proofs.Pasts.{lasts-line, cuts-past}
-use Rattle.driver_history.proofs.Bounds.{kept-off}
-use Rattle.driver_history.proofs.Weeks.{first_clock, past_left, past_clock, past-lasts, monday_left, monday_clock, monday-stands, monday-tracks, kept-past, left-parts, held-monday}
-use Rattle.driver_history.proofs.Nearby.{Alike, Held, same-fault}
-use Rattle.driver_history.proofs.Following.{follows-fold, follows-off, rests-uncut, rests-lawful}
+use Rattle.hours_rules.specs.Verdicts.{week_of}
 
 count-stretch : (test : Mark → Bool) (n : ℕ) (mark : Mark) (kind : Kind) (w : Minutes) →
     count test (stretch n mark kind w) ≡ count test w + cond (test mark) n 0

@@ -8,8 +8,10 @@ pub mod Sixteen
 pub mod Joining
 pub mod Idling
 pub mod Rows
+pub mod RowShapes
 pub mod RowBounds
 pub mod Texts
+pub mod LongRuns
 pub mod Nearby
 pub mod Shifting
 pub mod Closing

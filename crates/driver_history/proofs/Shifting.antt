@@ -1,16 +1,14 @@
 -- Two clocks that are one but for where the line began.
-use Rattle.std.proofs.Common.{◌≡◌, ℕ, ◌+◌, ◌≤◌, Bool, true, false, cond, ◌&&◌, leb, List, [], ◌∷◌, ◌++◌, refl, arith, sym, ◌∙◌, pos, ℤ, ◌-ℤ◌, min, le-leb, subst, inl, inr}
+use Rattle.std.proofs.Common.{◌≡◌, ℕ, ◌+◌, Bool, true, false, cond, ◌&&◌, leb, List, [], ◌∷◌, refl, arith, sym, ◌∙◌, pos, ℤ, ◌-ℤ◌, subst, inl, inr}
 use Rattle.std.proofs.lemmas.Bool.{cases_Bool}
 use Rattle.std.proofs.lemmas.Int.{ints}
 use Rattle.minute_line.specs.declared.marks.Mark.{Mark}
 use Rattle.minute_line.specs.declared.marks.Kind.{Kind}
-use Rattle.minute_line.specs.declared.marks.Kind.TheVariants.{Plain, Weekly}
 use Rattle.minute_line.specs.declared.marks.Stint.{Stint}
-use Rattle.minute_line.specs.Marks.{is_off, is_weekly, is_drive, is_working}
+use Rattle.minute_line.specs.Marks.{is_off, is_weekly}
 use Rattle.hours_rules.specs.declared.clocks.Clock.{Clock}
-use Rattle.hours_rules.specs.Machine.{run_ended, ticked, rested, rest_here, if_so}
-use Rattle.driver_history.specs.Carrying.{Left, duty, rest, all_stints}
-use Rattle.driver_history.proofs.Watching.{after_block, declared_after, watch, declared_by}
+use Rattle.hours_rules.specs.Machine.{run_ended, ticked, rested, rest_here}
+use Rattle.driver_history.proofs.Watching.{after_block, declared_after, watch}
 use Rattle.driver_history.proofs.Weeks.{first_clock}
 
 -- what a clock counts, but for its spans, its open run and the week's own counts

@@ -6,7 +6,7 @@ use Rattle.std.proofs.lemmas.List.Elements.{filter_map-append}
 use Rattle.std.specs.List.{filter_map}
 use Rattle.std.specs.Str.{bytes_eq}
 use Rattle.week_book.specs.declared.rows.Row.{Row}
-use Rattle.week_book.specs.declared.rows.Row.TheVariants.{Rest, Worked, Past, Did}
+use Rattle.week_book.specs.declared.rows.Row.TheVariants.{Past, Did}
 use Rattle.week_book.specs.declared.rows.Word.{Word}
 use Rattle.week_book.specs.Texts.{each_row}
 use Rattle.week_book.specs.Pasts.{Spell, rests_of, toils_of, did_spells, in_past_range, each_lasts, zero_first, HasPastRows}

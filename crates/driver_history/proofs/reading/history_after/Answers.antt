@@ -1,7 +1,8 @@
 use Rattle.std.proofs.Common.{◌∙◌, ap, arith, sym}
 use Rattle.minute_line.specs.Minutes.{total_of}
 use Rattle.driver_history.specs.Keeping.{held}
-use Rattle.driver_history.proofs.RowBounds.{few_minutes, kept-rows, total-stints}
+use Rattle.driver_history.proofs.RowBounds.{few_minutes, kept-rows}
+use Rattle.driver_history.proofs.RowShapes.{total-stints}
 use Rattle.driver_history.proofs.reading.history_after.Goals as goal
 
 pub carry_all-requires : goal.carry_all-requires

@@ -1,6 +1,7 @@
 use Rattle.std.proofs.Common.{arith, sym}
 use Rattle.week_book.specs.Pasts.{did_spells}
-use Rattle.driver_history.proofs.RowBounds.{most_minutes, line-read}
+use Rattle.driver_history.proofs.RowBounds.{most_minutes}
+use Rattle.driver_history.proofs.RowShapes.{line-read}
 use Rattle.driver_history.proofs.Rows.{did_within}
 use Rattle.driver_history.proofs.reading.read_line.Goals as goal
 

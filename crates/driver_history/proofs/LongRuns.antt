@@ -1,0 +1,161 @@
+-- Two clocks with an open run of two weeks or more, equal but for its length.
+use Rattle.std.proofs.Common.{◌≡◌, ℕ, ◌+◌, ◌≤◌, ◌<◌, ◌≤ℤ◌, true, false, leb, ltb, refl, sym, ◌∙◌, arith, pos, ℤ, ◌-ℤ◌, min, le-leb}
+use Rattle.std.proofs.lemmas.Bool.{le-ltb}
+use Rattle.std.proofs.lemmas.Bool.Decides.{nat_tests}
+use Rattle.std.proofs.lemmas.Int.{ints}
+use Rattle.minute_line.specs.declared.marks.Mark.{Mark}
+use Rattle.minute_line.specs.declared.marks.Kind.{Kind}
+use Rattle.minute_line.specs.declared.marks.Kind.TheVariants.{Plain, Daily, Weekly}
+use Rattle.minute_line.specs.Minutes.{Minutes}
+use Rattle.hours_rules.specs.declared.clocks.Clock.{Clock}
+use Rattle.hours_rules.specs.declared.rules.Rule.{Rule}
+use Rattle.hours_rules.specs.declared.rules.Rule.TheVariants.{H1, H2, H3, H4, H5, H6, H7, H8, H9, H10, H11}
+use Rattle.hours_rules.specs.Counts.{ends_rest, ends_weekly, work_day_of, since_weekly}
+use Rattle.hours_rules.specs.Rules.{Past, whole, least_rest}
+use Rattle.hours_rules.specs.Standing.{Stands}
+use Rattle.hours_rules.specs.Order.{IsAsGood}
+use Rattle.hours_rules.specs.Machine.{run_ended, rested, room, left_until}
+use Rattle.hours_rules.proofs.Spans.{open_run-since, open_run-length, duty-ends_rest, duty-ends_weekly}
+
+-- both have an open run of two weeks or more before the week, and are equal but for its length
+pub record Held (a b : Clock) : Type 0 where
+  pub at : a.at ≡ b.at
+  pub a_off : 20160 + a.at ≤ a.off
+  pub b_off : 20160 + b.at ≤ b.off
+  pub day : ((pos a.at -ℤ a.day_from) -ℤ pos a.off) ≡ ((pos b.at -ℤ b.day_from) -ℤ pos b.off)
+  pub drive_day : a.drive_day ≡ b.drive_day
+  pub long_days : a.long_days ≡ b.long_days
+  pub split : a.split ≡ b.split
+  pub reduced : a.reduced ≡ b.reduced
+  pub prev_weekly : a.prev_weekly ≡ b.prev_weekly
+  pub work_day : a.work_day ≡ b.work_day
+  pub drive_week : a.drive_week ≡ b.drive_week
+  pub work_week : a.work_week ≡ b.work_week
+  pub prev_drive : a.prev_drive ≡ b.prev_drive
+  pub work_before : a.work_before ≡ b.work_before
+
+-- the open run lies within its work day and within the week since the last weekly rest
+pub record RunInside (c : Clock) : Type 0 where
+  pub day : pos c.off ≤ℤ (pos c.at -ℤ c.day_from)
+  pub since : pos c.off ≤ℤ (pos c.at -ℤ c.rest_from)
+
+pub run-inside : (c : Clock) (past : Past) (week : Minutes) → Stands c past week → RunInside c
+run-inside c past week s = record {
+  day = let l = open_run-length (work_day_of (whole past week)) in let e = open_run-since ends_rest duty-ends_rest (whole past week) in omega (arith, ints, s.at, s.off, s.day_from, l, e);
+  since = let l = open_run-length (since_weekly (whole past week)) in let e = open_run-since ends_weekly duty-ends_weekly (whole past week) in omega (arith, ints, s.at, s.off, s.rest_from, l, e);
+}
+
+-- no room past a limit
+pub none_left : (limit at off : ℕ) (from : ℤ) → pos off ≤ℤ (pos at -ℤ from) → limit < off → left_until limit from at ≡ 0
+none_left limit at off from h l = grind (arith, ints)
+
+least-most : (kind : Kind) (weekly : ℕ) → least_rest kind weekly ≤ 2700
+least-most Plain weekly = omega arith
+least-most Daily weekly = omega arith
+least-most Weekly weekly = grind (arith, nat_tests)
+
+full : (off pause : ℕ) → 45 ≤ off → min 45 (off + pause) ≡ 45
+full off pause h = omega arith
+
+-- the tests of a long run
+pub record Long (c : Clock) (kind : Kind) : Type 0 where
+  pub one : leb 1 c.off ≡ true
+  pub pause : leb 15 c.off ≡ true
+  pub break : leb 45 c.off ≡ true
+  pub before : ltb c.off c.at ≡ false
+  pub long : ltb c.off 660 ≡ false
+  pub least : ltb c.off (least_rest kind c.prev_weekly) ≡ false
+
+pub long-run : (c : Clock) (kind : Kind) → 20160 + c.at ≤ c.off → Long c kind
+long-run c kind h = record {
+  one = le-leb 1 c.off (omega arith);
+  pause = le-leb 15 c.off (omega arith);
+  break = le-leb 45 c.off (omega arith);
+  before = le-ltb c.off c.at (omega arith);
+  long = le-ltb c.off 660 (omega arith);
+  least = le-ltb c.off (least_rest kind c.prev_weekly) (omega (arith, least-most kind c.prev_weekly));
+}
+
+pub held-room : (a b : Clock) (mark : Mark) (kind : Kind) → Held a b → RunInside a → RunInside b → (r : Rule) →
+    room a (run_ended a kind) mark kind r ≡ room b (run_ended b kind) mark kind r
+held-room a b mark kind h ia ib H1 = let x = long-run a kind h.a_off in let y = long-run b kind h.b_off in rw (x.break, y.break) refl
+held-room a b mark kind h ia ib H2 = let x = long-run a kind h.a_off in let y = long-run b kind h.b_off in
+    rw (x.one, y.one, x.before, y.before, h.drive_day, h.long_days) refl
+held-room a b mark Plain h ia ib H3 = let x = long-run a Plain h.a_off in let y = long-run b Plain h.b_off in
+    rw (x.one, y.one) (none_left 900 a.at a.off a.day_from ia.day (let o = h.a_off in omega arith) ∙ sym (none_left 900 b.at b.off b.day_from ib.day (let o = h.b_off in omega arith)))
+held-room a b mark Daily h ia ib H3 = let x = long-run a Daily h.a_off in let y = long-run b Daily h.b_off in rw (x.one, y.one, h.at) refl
+held-room a b mark Weekly h ia ib H3 = let x = long-run a Weekly h.a_off in let y = long-run b Weekly h.b_off in rw (x.one, y.one, h.at) refl
+held-room a b mark kind h ia ib H4 = let x = long-run a kind h.a_off in let y = long-run b kind h.b_off in
+    rw (x.one, y.one, x.long, y.long, h.day, h.split, h.reduced) refl
+held-room a b mark kind h ia ib H5 = let x = long-run a kind h.a_off in let y = long-run b kind h.b_off in rw (x.one, y.one, x.least, y.least) refl
+held-room a b mark Plain h ia ib H6 = let x = long-run a Plain h.a_off in let y = long-run b Plain h.b_off in
+    rw (x.one, y.one) (none_left 8640 a.at a.off a.rest_from ia.since (let o = h.a_off in omega arith) ∙ sym (none_left 8640 b.at b.off b.rest_from ib.since (let o = h.b_off in omega arith)))
+held-room a b mark Daily h ia ib H6 = let x = long-run a Daily h.a_off in let y = long-run b Daily h.b_off in
+    rw (x.one, y.one) (none_left 8640 a.at a.off a.rest_from ia.since (let o = h.a_off in omega arith) ∙ sym (none_left 8640 b.at b.off b.rest_from ib.since (let o = h.b_off in omega arith)))
+held-room a b mark Weekly h ia ib H6 = let x = long-run a Weekly h.a_off in let y = long-run b Weekly h.b_off in rw (x.one, y.one, h.at) refl
+held-room a b mark kind h ia ib H7 = rw h.drive_week refl
+held-room a b mark kind h ia ib H8 = rw (h.drive_week, h.prev_drive) refl
+held-room a b mark kind h ia ib H9 = rw (h.work_week, h.work_before) refl
+held-room a b mark kind h ia ib H10 = let x = long-run a kind h.a_off in let y = long-run b kind h.b_off in rw (x.pause, y.pause) refl
+held-room a b mark kind h ia ib H11 = let x = long-run a kind h.a_off in let y = long-run b kind h.b_off in
+    rw (x.one, y.one, x.pause, y.pause, full a.off a.pause_day (let o = h.a_off in omega arith), full b.off b.pause_day (let o = h.b_off in omega arith), h.work_day) refl
+
+pub held-sym : (a b : Clock) → Held a b → Held b a
+held-sym a b h = record {
+  at = sym h.at;
+  a_off = h.b_off;
+  b_off = h.a_off;
+  day = sym h.day;
+  drive_day = sym h.drive_day;
+  long_days = sym h.long_days;
+  split = sym h.split;
+  reduced = sym h.reduced;
+  prev_weekly = sym h.prev_weekly;
+  work_day = sym h.work_day;
+  drive_week = sym h.drive_week;
+  work_week = sym h.work_week;
+  prev_drive = sym h.prev_drive;
+  work_before = sym h.work_before;
+}
+
+pub held-rested : (a b : Clock) → Held a b → Held (rested a 1) (rested b 1)
+held-rested a b h = record {
+  at = let e = h.at in omega arith;
+  a_off = let e = h.a_off in omega arith;
+  b_off = let e = h.b_off in omega arith;
+  day = let e = h.day in omega (arith, ints);
+  drive_day = h.drive_day;
+  long_days = h.long_days;
+  split = h.split;
+  reduced = h.reduced;
+  prev_weekly = h.prev_weekly;
+  work_day = h.work_day;
+  drive_week = h.drive_week;
+  work_week = h.work_week;
+  prev_drive = h.prev_drive;
+  work_before = h.work_before;
+}
+
+-- a weekly rest of two weeks or more forgets how long it was
+pub held-weekly : (a b : Clock) → Held a b → IsAsGood (run_ended a Weekly) (run_ended b Weekly)
+held-weekly a b h =
+    let x = long-run a Weekly h.a_off in let y = long-run b Weekly h.b_off in let at = h.at in record {
+      at = h.at;
+      off = refl;
+      day_from = rw (x.one, y.one) (omega (arith, ints));
+      rest_from = rw (x.one, y.one) (omega (arith, ints));
+      period = rw (x.break, y.break) (omega arith);
+      half = rw (x.break, y.break) refl;
+      drive_day = rw (x.one, y.one) (omega arith);
+      long_days = rw (x.one, y.one, x.before, y.before, h.drive_day, h.long_days) (omega arith);
+      split = rw (x.one, y.one) (λ e. e);
+      reduced = rw (x.one, y.one) (omega arith);
+      prev_weekly = rw (x.one, y.one) (λ (e : 2700 ≤ b.off). let l = h.a_off in omega arith);
+      work_run = rw (x.pause, y.pause) (omega arith);
+      work_day = rw (x.one, y.one) (omega arith);
+      pause_day = rw (x.one, y.one) (omega arith);
+      drive_week = let e = h.drive_week in omega arith;
+      work_week = let e = h.work_week in omega arith;
+      prev_drive = h.prev_drive;
+      work_before = h.work_before;
+    }
