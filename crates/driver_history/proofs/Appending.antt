@@ -1,5 +1,5 @@
 -- Judging after an advance is judging on the whole appended line.
-use Rattle.std.proofs.Common.{◌≡◌, ℕ, ◌≤◌, ◌<◌, inl, inr, ◌⊎◌, List, [], ◌∷◌, ◌++◌, refl, arith, sym, ◌∙◌, ap, min, None, drop, sum}
+use Rattle.std.proofs.Common.{◌≡◌, ℕ, ◌≤◌, ◌<◌, inl, inr, ◌⊎◌, List, [], ◌∷◌, ◌++◌, refl, arith, sym, ◌∙◌, ap, min, None, drop, sum, pos, ◌-ℤ◌}
 use Rattle.std.proofs.lemmas.Bool.{cases_Bool, cases_lt}
 use Rattle.std.proofs.lemmas.Int.{ints}
 use Rattle.minute_line.specs.declared.marks.Mark.{Mark}
@@ -16,6 +16,7 @@ use Rattle.hours_rules.specs.Counts.{count}
 use Rattle.hours_rules.specs.Rules.{fault}
 use Rattle.hours_rules.specs.Machine.{at_monday, rested}
 use Rattle.hours_rules.specs.Verdicts.{past_of, week_of}
+use Rattle.hours_rules.proofs.Determined.{as_good-itself}
 use Rattle.driver_history.specs.Carrying.{Left, all_stints}
 use Rattle.driver_history.specs.Advancing.{left_of, advance_of}
 use Rattle.driver_history.specs.Laws.{appended_past}
@@ -47,51 +48,33 @@ keeps-watch (s ∷ ss) k d =
     let all = keeps-watch ss (after_block k d s.mark s.minutes) (declared_after s) in
     record { drive = all.drive ∙ one.drive; work = all.work ∙ one.work }
 
-as_good : (x y : Clock) (drive work : ℕ) → Shifted x y → x.prev_drive ≡ drive → x.work_before ≡ work → Alike (at_monday x) (moved_on y drive work)
-as_good x y drive work s d w =
-    let off = s.off in let day = s.day in let since = s.since in let a = s.counts.period in let b = s.counts.drive_day in let c = s.counts.reduced in let e = s.counts.prev_weekly in
-    let f = s.counts.work_run in let g = s.counts.work_day in let i = s.counts.pause_day in record {
-      to = record {
-        at = refl;
-        off = s.off;
-        day_from = omega (arith, ints);
-        rest_from = omega (arith, ints);
-        period = omega arith;
-        half = s.counts.half;
-        drive_day = omega arith;
-        long_days = omega arith;
-        split = λ t. s.counts.split ∙ t;
-        reduced = omega arith;
-        prev_weekly = λ (l : 2700 ≤ y.prev_weekly). omega arith;
-        work_run = omega arith;
-        work_day = omega arith;
-        pause_day = omega arith;
-        drive_week = omega arith;
-        work_week = omega arith;
-        prev_drive = d;
-        work_before = w;
-      };
-      from = record {
-        at = refl;
-        off = sym s.off;
-        day_from = omega (arith, ints);
-        rest_from = omega (arith, ints);
-        period = omega arith;
-        half = sym s.counts.half;
-        drive_day = omega arith;
-        long_days = omega arith;
-        split = λ t. sym s.counts.split ∙ t;
-        reduced = omega arith;
-        prev_weekly = λ (l : 2700 ≤ x.prev_weekly). omega arith;
-        work_run = omega arith;
-        work_day = omega arith;
-        pause_day = omega arith;
-        drive_week = omega arith;
-        work_week = omega arith;
-        prev_drive = sym d;
-        work_before = sym w;
-      };
+-- clocks that are one but for where the line began are one on Monday
+same-monday : (x y : Clock) (drive work : ℕ) → Shifted x y → x.prev_drive ≡ drive → x.work_before ≡ work → at_monday x ≡ moved_on y drive work
+same-monday x y drive work s d w =
+    let day : (x.day_from -ℤ pos x.at) ≡ (y.day_from -ℤ pos y.at) = let e = s.day in omega (arith, ints) in
+    let since : (x.rest_from -ℤ pos x.at) ≡ (y.rest_from -ℤ pos y.at) = let e = s.since in omega (arith, ints) in λ i. record {
+      at = 0;
+      off = s.off i;
+      day_from = day i;
+      rest_from = since i;
+      period = s.counts.period i;
+      half = s.counts.half i;
+      drive_day = s.counts.drive_day i;
+      long_days = 0;
+      split = s.counts.split i;
+      reduced = s.counts.reduced i;
+      prev_weekly = s.counts.prev_weekly i;
+      work_run = s.counts.work_run i;
+      work_day = s.counts.work_day i;
+      pause_day = s.counts.pause_day i;
+      drive_week = 0;
+      work_week = 0;
+      prev_drive = d i;
+      work_before = w i;
     }
+
+alike-same : (a b : Clock) → a ≡ b → Alike a b
+alike-same a b e = rw e (record { to = as_good-itself b; from = as_good-itself b })
 
 -- a longer run than the one that is held
 held-run : (p q k : Clock) (o drive work : ℕ) → Shifted p q → Shifted (rested q o) k → q.off ≡ 0 → 20160 ≤ o → p.prev_drive ≡ drive → p.work_before ≡ work →
@@ -140,8 +123,8 @@ near-next next c k drive work y f = by_run (cases_lt 20160 c.open_off)
         inr (rw run (held-run (past_clock next) (closed_clock c) k c.open_off drive work shift f.shift f.none (omega arith) (keeps.drive ∙ y.drive) (keeps.work ∙ y.work)))
     by_run (inr l) =
         let run : next.open_off ≡ c.open_off = let o = y.open_run in omega arith in
-        inl (as_good (rested (past_clock next) next.open_off) k drive work
-        (shifted-trans _ _ _ (shifted-rested (past_clock next) (closed_clock c) next.open_off c.open_off run shift) f.shift) (keeps.drive ∙ y.drive) (keeps.work ∙ y.work))
+        inl (alike-same _ _ (same-monday (rested (past_clock next) next.open_off) k drive work
+        (shifted-trans _ _ _ (shifted-rested (past_clock next) (closed_clock c) next.open_off c.open_off run shift) f.shift) (keeps.drive ∙ y.drive) (keeps.work ∙ y.work)))
 
 says : (h next : History) (line : Line) → fields_of next ≡ advance_of (fields_of h) line.stints →
     Says next (left_of (fields_of h) line.stints) (count is_drive (week_of line)) (sum (drop 1 h.work16 ++ count is_working (week_of line) ∷ []))

@@ -12,7 +12,7 @@ use Rattle.driver_history.specs.Finding.{each_within, ArePast, IsRest}
 use Rattle.driver_history.specs.Reading.{stint_of, late_weekly, second_off, minutes_of, off_in, trailing_off, minutes_before, sum_fault, off_fault, weekly_fault, past_fault}
 use Rattle.driver_history.proofs.Carry.{all_total, open-add_duty, open-end_off}
 use Rattle.driver_history.proofs.Pasts.{uncut-fold, past-fold}
-use Rattle.driver_history.proofs.RowShapes.{says, total-stints, lasts-read, cuts-late}
+use Rattle.driver_history.proofs.RowShapes.{stint-says, total-stints, lasts-read, cuts-late}
 
 pub most_minutes : (ss : List Spell) → each_within 2000000 ss ≡ true → minutes_of ss ≤ 2000000 * length ss
 most_minutes [] h = omega arith
@@ -45,7 +45,7 @@ trailing_small (s ∷ ss) h =
 
 open-carry : (c : Left) (s : Spell) → is_off_word s.word ≡ false → (carry c (stint_of s)).open_off ≡ 0
 open-carry c s f =
-    let e : is_off (stint_of s).mark ≡ false = (says s.word s.minutes).off ∙ f in
+    let e : is_off (stint_of s).mark ≡ false = (stint-says s.word s.minutes).off ∙ f in
     rw e (open-add_duty (end_off c) (stint_of s).mark (stint_of s).minutes ∙ open-end_off c)
 
 open-last : (after : Bool) (c : Left) (s : Spell) → second_off after (s ∷ []) ≡ None → (after ≡ false → c.open_off ≡ 0) →
@@ -55,10 +55,10 @@ open-last after c s h i = by_word (is_off_word s.word) refl
     by_word : (b : Bool) → is_off_word s.word ≡ b → (carry c (stint_of s)).open_off ≡ off_in s
     by_word false e = open-carry c s e ∙ rw e refl
     by_word true e =
-        let off : is_off (stint_of s).mark ≡ true = (says s.word s.minutes).off ∙ e in
+        let off : is_off (stint_of s).mark ≡ true = (stint-says s.word s.minutes).off ∙ e in
         let none : after ≡ false = before after refl e in
         let zero_open = i none in
-        rw (off, e, (says s.word s.minutes).minutes) (omega arith)
+        rw (off, e, (stint-says s.word s.minutes).minutes) (omega arith)
       where
         before : (b : Bool) → after ≡ b → is_off_word s.word ≡ true → after ≡ false
         before false g o = g

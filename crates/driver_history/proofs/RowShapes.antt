@@ -15,19 +15,19 @@ use Rattle.driver_history.proofs.Watching.{each_lasts}
 use Rattle.driver_history.proofs.Pasts.{cuts_none}
 
 -- what the stint of a word is
-pub record Says (w : Word) (n : ℕ) : Type 0 where
+pub record StintSays (w : Word) (n : ℕ) : Type 0 where
   pub minutes : (stint_by w n).minutes ≡ n
   pub off : is_off (stint_by w n).mark ≡ is_off_word w
   pub weekly : (is_off (stint_by w n).mark && is_weekly (stint_by w n).kind) ≡ is_weekly_word w
   pub own_kind : has_own_kind (stint_by w n) ≡ true
 
-pub says : (w : Word) (n : ℕ) → Says w n
-says Drive n = record { minutes = refl; off = refl; weekly = refl; own_kind = refl }
-says Work n = record { minutes = refl; off = refl; weekly = refl; own_kind = refl }
-says Ready n = record { minutes = refl; off = refl; weekly = refl; own_kind = refl }
-says Off n = record { minutes = refl; off = refl; weekly = refl; own_kind = refl }
-says Daily n = record { minutes = refl; off = refl; weekly = refl; own_kind = refl }
-says Weekly n = record { minutes = refl; off = refl; weekly = refl; own_kind = refl }
+pub stint-says : (w : Word) (n : ℕ) → StintSays w n
+stint-says Drive n = record { minutes = refl; off = refl; weekly = refl; own_kind = refl }
+stint-says Work n = record { minutes = refl; off = refl; weekly = refl; own_kind = refl }
+stint-says Ready n = record { minutes = refl; off = refl; weekly = refl; own_kind = refl }
+stint-says Off n = record { minutes = refl; off = refl; weekly = refl; own_kind = refl }
+stint-says Daily n = record { minutes = refl; off = refl; weekly = refl; own_kind = refl }
+stint-says Weekly n = record { minutes = refl; off = refl; weekly = refl; own_kind = refl }
 
 pub total-stints : (ss : List Spell) → total_of (map stint_of ss) ≡ minutes_of ss
 total-stints [] = refl
@@ -36,26 +36,26 @@ total-stints (s ∷ ss) =
       arith,
       sum_by-cons (λ (x : Stint). x.minutes) (stint_of s) (map stint_of ss),
       sum_by-cons (λ (x : Spell). x.minutes) s ss,
-      (says s.word s.minutes).minutes,
+      (stint-says s.word s.minutes).minutes,
       total-stints ss,
     )
 
 pub lasts-read : (ss : List Spell) → each_has_minutes ss ≡ true → each_lasts (map stint_of ss) ≡ true
 lasts-read [] h = refl
 lasts-read (s ∷ ss) h =
-    rw ((says s.word s.minutes).off, (says s.word s.minutes).minutes, lasts-read ss (grind arith)) (grind (arith, nat_tests))
+    rw ((stint-says s.word s.minutes).off, (stint-says s.word s.minutes).minutes, lasts-read ss (grind arith)) (grind (arith, nat_tests))
 
 -- where no weekly rest but the last row is there, none ends
 pub cuts-late : (ss : List Spell) → late_weekly ss ≡ None → cuts_none false (map stint_of ss) ≡ true
 cuts-late [] h = refl
-cuts-late (s ∷ []) h = rw ((says s.word s.minutes).off) (grind arith)
+cuts-late (s ∷ []) h = rw ((stint-says s.word s.minutes).off) (grind arith)
 cuts-late (s ∷ t ∷ ss) h = by_word (cuts-late (t ∷ ss)) (is_weekly_word s.word) refl
   where
     by_word : (late_weekly (t ∷ ss) ≡ None → cuts_none false (map stint_of (t ∷ ss)) ≡ true) → (b : Bool) → is_weekly_word s.word ≡ b →
         cuts_none false (map stint_of (s ∷ t ∷ ss)) ≡ true
     by_word go false e =
         let more : late_weekly (t ∷ ss) ≡ None = rw e at h in
-        let next : (is_off (stint_of s).mark && is_weekly (stint_of s).kind) ≡ false = (says s.word s.minutes).weekly ∙ e in
+        let next : (is_off (stint_of s).mark && is_weekly (stint_of s).kind) ≡ false = (stint-says s.word s.minutes).weekly ∙ e in
         let rest : cuts_none false (map stint_of (t ∷ ss)) ≡ true = go more in
         rw next (grind arith)
     by_word go true e =
@@ -73,13 +73,13 @@ follows-read after (s ∷ ss) l h = by_offs (follows-read (is_off_word s.word) s
         let more : second_off (is_off_word s.word) ss ≡ None = rw e at h in
         let rest : each_follows (is_off_word s.word) (map stint_of ss) ≡ true = go more in
         let some : leb 1 s.minutes ≡ true = grind (arith, nat_tests) in
-        rw ((says s.word s.minutes).own_kind, (says s.word s.minutes).off, (says s.word s.minutes).minutes, some, e, rest) refl
+        rw ((stint-says s.word s.minutes).own_kind, (stint-says s.word s.minutes).off, (stint-says s.word s.minutes).minutes, some, e, rest) refl
 
 pub line-read : (ss : List Spell) → zero_first ss ≡ true → second_off false ss ≡ None → is_line (map stint_of ss) ≡ true
 line-read [] z h = refl
 line-read (s ∷ ss) z h =
     let rest : each_follows (is_off_word s.word) (map stint_of ss) ≡ true = follows-read (is_off_word s.word) ss (grind arith) h in
-    rw ((says s.word s.minutes).own_kind, (says s.word s.minutes).off, (says s.word s.minutes).minutes, rest) (first (is_off_word s.word) s.minutes (grind arith))
+    rw ((stint-says s.word s.minutes).own_kind, (stint-says s.word s.minutes).off, (stint-says s.word s.minutes).minutes, rest) (first (is_off_word s.word) s.minutes (grind arith))
   where
     first : (off : Bool) (n : ℕ) → cond off true (leb 1 n) ≡ true → (((off && nat_eq n 0) || (leb 1 n && (true && not (false && off)))) && true) ≡ true
     first off n g = grind (arith, nat_tests)
