@@ -57,9 +57,8 @@ pub fn find_rest(rows: &[Row], name: &[u8]) -> Option<Rest>
     ensures { result ≡ first_of (rests_of name.now rows.now) }
 {
     for row in rows {
-        match rest_row(row, name) {
-            Some(rest) => return Some(rest),
-            None => {}
+        if let Some(rest) = rest_row(row, name) {
+            return Some(rest);
         }
     }
     None
@@ -88,9 +87,8 @@ pub fn find_worked(rows: &[Row], name: &[u8]) -> Option<Worked>
     ensures { result ≡ first_of (toils_of name.now rows.now) }
 {
     for row in rows {
-        match worked_row(row, name) {
-            Some(worked) => return Some(worked),
-            None => {}
+        if let Some(worked) = worked_row(row, name) {
+            return Some(worked);
         }
     }
     None
