@@ -57,7 +57,7 @@ weekly_length past (suc n) m w d l h o =
         (not (duty && leb 1 run) || leb (cond (ltb before 2700) 2700 1440) run) ≡ true → 1440 ≤ run
     long_enough run before duty d o r = grind (arith, nat_tests)
 
-weekly_kind : (kind : Kind) → is_weekly kind ≡ true → kind ≡ Weekly
+pub weekly_kind : (kind : Kind) → is_weekly kind ≡ true → kind ≡ Weekly
 weekly_kind Plain h = cc
 weekly_kind Daily h = cc
 weekly_kind Weekly h = refl

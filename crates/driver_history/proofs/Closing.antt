@@ -11,7 +11,7 @@ use Rattle.hours_rules.specs.Machine.{run_ended, ticked, rested, rest_here, if_s
 use Rattle.driver_history.specs.Carrying.{Left, duty, rest, all_stints}
 use Rattle.driver_history.proofs.Watching.{after_block, declared_after, watch, declared_by}
 use Rattle.driver_history.proofs.Weeks.{first_clock}
-use Rattle.driver_history.proofs.Shifting.{Shifted, shifted-trans, shifted-closed, unrested, rest-none}
+use Rattle.driver_history.proofs.Shifting.{Shifted, shifted-trans, shifted-closed, rested-none}
 
 so-add : (b : Bool) (a n p : ℕ) → if_so b (a + n) + p ≡ if_so b n + (if_so b a + p)
 so-add true a n p = omega arith
@@ -98,7 +98,7 @@ pub record Follows (c : Left) (k : Clock) (d : Kind) : Type 0 where
 -- a state with no open run, by the clock of its stints
 pub follows-closed : (c : Left) (k y : Clock) → closed_clock c ≡ y → c.open_off ≡ 0 → c.declared ≡ Plain → y.off ≡ 0 → Shifted y k → Follows c k Plain
 follows-closed c k y e z p n s = record {
-  shift = rw e (rest-none y k c.open_off z s);
+  shift = rw (e, rested-none y c.open_off z) s;
   kind = sym p;
   none = rw e n;
 }
@@ -108,9 +108,10 @@ pub follows-next : (c next : Left) (k : Clock) (d : Kind) (m : Mark) (n : ℕ) �
     next.prev_weekly ≡ c.prev_weekly → all_stints next ≡ all_stints c ++ duty m n ∷ [] → next.open_off ≡ 0 → next.declared ≡ Plain →
     Follows next (ticked (run_ended k d) m n) Plain
 follows-next c next k d m n f h z p a o q =
+    let s = h.shift in
     follows-closed next _ (ticked (run_ended (closed_clock c) (declared_by Plain (all_stints c))) m n)
     (rw (p, a) (closed-duty c.prev_weekly (all_stints c) m n f)) o q refl
-    (shifted-closed (closed_clock c) k (declared_by Plain (all_stints c)) d m n h.none (unrested (closed_clock c) k c.open_off z h.shift))
+    (shifted-closed (closed_clock c) k (declared_by Plain (all_stints c)) d m n h.none (rw (rested-none (closed_clock c) c.open_off z) at s))
 
 -- a block that lengthens the last one
 pub follows-join : (c next : Left) (k : Clock) (d : Kind) (m : Mark) (n : ℕ) → is_off m ≡ false → Follows c k d → c.open_off ≡ 0 →
@@ -119,7 +120,8 @@ pub follows-join : (c next : Left) (k : Clock) (d : Kind) (m : Mark) (n : ℕ) �
 follows-join c next k d m n f h z p was a o q =
     let e : Clock = run_ended (closed_by c.prev_weekly c.stints) (declared_by Plain c.stints) in
     let before : closed_clock c ≡ ticked e m c.minutes = rw was (closed-duty c.prev_weekly c.stints m c.minutes f) in
-    let x : Shifted (ticked e m c.minutes) k = rw before at (unrested (closed_clock c) k c.open_off z h.shift) in
+    let s = h.shift in
+    let x : Shifted (ticked e m c.minutes) k = rw (rested-none (closed_clock c) c.open_off z, before) at s in
     follows-closed next _ (ticked e m (c.minutes + n)) (rw (p, a) (closed-duty c.prev_weekly c.stints m (c.minutes + n) f)) o q refl
     (shifted-trans _ _ _ (join-ticked e m c.minutes n Plain refl (pause-most (closed_by c.prev_weekly c.stints) (declared_by Plain c.stints)))
     (shifted-closed (ticked e m c.minutes) k Plain d m n refl x))

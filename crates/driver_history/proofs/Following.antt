@@ -5,7 +5,7 @@ use Rattle.std.proofs.lemmas.Bool.Decides.{nat_tests}
 use Rattle.std.proofs.lemmas.List.Sums.{sum_by-cons}
 use Rattle.minute_line.specs.declared.marks.Mark.{Mark}
 use Rattle.minute_line.specs.declared.marks.Kind.{Kind}
-use Rattle.minute_line.specs.declared.marks.Kind.TheVariants.{Plain, Daily, Weekly}
+use Rattle.minute_line.specs.declared.marks.Kind.TheVariants.{Plain, Weekly}
 use Rattle.minute_line.specs.declared.marks.Stint.{Stint}
 use Rattle.minute_line.specs.Marks.{is_off, is_weekly}
 use Rattle.minute_line.specs.Minutes.{Reached, add_stint, total_of}
@@ -18,15 +18,10 @@ use Rattle.driver_history.specs.Keeping.{IsKept, held}
 use Rattle.driver_history.proofs.Carry.{weekly_ends, carry_small, open-add_duty, prev-add_duty, prev-end_off, declared-add_duty}
 use Rattle.driver_history.proofs.Shapes.{same_is, some_minutes, no_minutes, all-after_rest}
 use Rattle.driver_history.proofs.Watching.{Tracks, tracks-carry, after_block, declared_after, watch, declared_by, each_lasts, first_lasts, rest_lasts, Lasts, stands-stint, declared-add_stint}
-use Rattle.driver_history.proofs.Bounds.{kept-carry, none_before}
+use Rattle.driver_history.proofs.Bounds.{kept-carry, none_before, weekly_kind}
 use Rattle.driver_history.proofs.Pasts.{cuts_none, ends-carry}
 use Rattle.driver_history.proofs.Shifting.{shifted-trans, shifted-rested, rested-rested, shifted-duty}
 use Rattle.driver_history.proofs.Closing.{closed_by, closed_clock, closed-duty, closed-rest, declared-append, fresh-shift, Follows, follows-closed, follows-next, follows-join}
-
-weekly_kind : (kind : Kind) → is_weekly kind ≡ true → kind ≡ Weekly
-weekly_kind Plain h = cc
-weekly_kind Daily h = cc
-weekly_kind Weekly h = refl
 
 -- a block where no run is open
 follows-block : (c : Left) (k : Clock) (d : Kind) (m : Mark) (n : ℕ) → is_off m ≡ false → 1 ≤ n → Follows c k d → c.open_off ≡ 0 →

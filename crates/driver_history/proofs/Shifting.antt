@@ -124,21 +124,11 @@ pub shifted-closed : (x y : Clock) (a b : Kind) (m : Mark) (n : ℕ) → x.off �
 shifted-closed x y a b m n z s =
     subst (λ (e : Clock). Shifted (ticked e m n) (ticked (run_ended y b) m n)) (sym (closed-kind x a b z)) (shifted-duty x y b m n s)
 
-pub unrested : (x k : Clock) (o : ℕ) → o ≡ 0 → Shifted (rested x o) k → Shifted x k
-unrested x k o z s = record {
-  off = let e = s.off in omega arith;
-  day = let e = s.day in omega (arith, ints);
-  since = let e = s.since in omega (arith, ints);
-  counts = s.counts;
-}
-
-pub rest-none : (x k : Clock) (o : ℕ) → o ≡ 0 → Shifted x k → Shifted (rested x o) k
-rest-none x k o z s = record {
-  off = let e = s.off in omega arith;
-  day = let e = s.day in omega (arith, ints);
-  since = let e = s.since in omega (arith, ints);
-  counts = s.counts;
-}
+-- no minute of rest
+pub rested-none : (x : Clock) (o : ℕ) → o ≡ 0 → rested x o ≡ x
+rested-none x o z =
+    let at : x.at + o ≡ x.at = omega arith in
+    let off : x.off + o ≡ x.off = omega arith in λ i. record x { at = at i; off = off i }
 
 -- two clocks that are one but for a shift stay so
 shifted-block : (x y : Clock) (d : Kind) (m : Mark) (n : ℕ) → Shifted x y → Shifted (after_block x d m n) (after_block y d m n)

@@ -61,7 +61,11 @@ fn past_row(row: &Row, name: &[u8]) -> Option<Spell>
 pub fn past_rows(alloc: Global, rows: &[Row], name: &[u8]) -> Result<Vec<Spell>, Memory>
     ensures { IfOk result (λ spells. spells.items ≡ past_spells name.now rows.now) }
 {
-    Ok(rows.iter().filter_map(|row| past_row(row, name)).collect(alloc)?)
+    let spells = rows
+        .iter()
+        .filter_map(|row| past_row(row, name))
+        .collect(alloc)?;
+    Ok(spells)
 }
 
 /// What a did row of the driver says.
@@ -87,7 +91,11 @@ fn did_row(row: &Row, name: &[u8]) -> Option<Spell>
 pub fn did_rows(alloc: Global, rows: &[Row], name: &[u8]) -> Result<Vec<Spell>, Memory>
     ensures { IfOk result (λ spells. spells.items ≡ did_spells name.now rows.now) }
 {
-    Ok(rows.iter().filter_map(|row| did_row(row, name)).collect(alloc)?)
+    let spells = rows
+        .iter()
+        .filter_map(|row| did_row(row, name))
+        .collect(alloc)?;
+    Ok(spells)
 }
 
 /// The row of the first weekly rest that another row follows.
