@@ -71,9 +71,6 @@ whole-add_duty c m n =
       | inr f ↦ rw f (omega (arith, all_total c))
     ]
 
-pub whole-add_off : (c : Left) (n : ℕ) (k : Kind) → whole_of (add_off c n k) ≡ whole_of c + n
-whole-add_off c n k = omega arith
-
 pub prev-end_off : (c : Left) → (end_off c).prev_weekly ≡ cond (weekly_ends c) c.open_off c.prev_weekly
 prev-end_off c = grind (arith, nat_tests)
 

@@ -54,9 +54,6 @@ least-most Plain weekly = omega arith
 least-most Daily weekly = omega arith
 least-most Weekly weekly = grind (arith, nat_tests)
 
-full : (off pause : ℕ) → 45 ≤ off → min 45 (off + pause) ≡ 45
-full off pause h = omega arith
-
 -- the tests of a long run
 pub record Long (c : Clock) (kind : Kind) : Type 0 where
   pub one : leb 1 c.off ≡ true
@@ -65,6 +62,7 @@ pub record Long (c : Clock) (kind : Kind) : Type 0 where
   pub before : ltb c.off c.at ≡ false
   pub long : ltb c.off 660 ≡ false
   pub least : ltb c.off (least_rest kind c.prev_weekly) ≡ false
+  pub full : min 45 (c.off + c.pause_day) ≡ 45
 
 pub long-run : (c : Clock) (kind : Kind) → 20160 + c.at ≤ c.off → Long c kind
 long-run c kind h = record {
@@ -74,31 +72,37 @@ long-run c kind h = record {
   before = le-ltb c.off c.at (omega arith);
   long = le-ltb c.off 660 (omega arith);
   least = le-ltb c.off (least_rest kind c.prev_weekly) (omega (arith, least-most kind c.prev_weekly));
+  full = omega arith;
 }
 
+none_both : (limit : ℕ) (a b : Clock) (from_a from_b : ℤ) → Held a b → pos a.off ≤ℤ (pos a.at -ℤ from_a) → pos b.off ≤ℤ (pos b.at -ℤ from_b) →
+    limit < 20160 → left_until limit from_a a.at ≡ left_until limit from_b b.at
+none_both limit a b from_a from_b h in_a in_b l =
+    let long_a = h.a_off in let long_b = h.b_off in
+    none_left limit a.at a.off from_a in_a (omega arith) ∙ sym (none_left limit b.at b.off from_b in_b (omega arith))
+
+long-room : (a b : Clock) (mark : Mark) (kind : Kind) → Held a b → RunInside a → RunInside b → Long a kind → Long b kind → (r : Rule) →
+    room a (run_ended a kind) mark kind r ≡ room b (run_ended b kind) mark kind r
+long-room a b mark kind h ia ib x y H1 = rw (x.break, y.break) refl
+long-room a b mark kind h ia ib x y H2 = rw (x.one, y.one, x.before, y.before, h.drive_day, h.long_days) refl
+long-room a b mark Plain h ia ib x y H3 = rw (x.one, y.one) (none_both 900 a b a.day_from b.day_from h ia.day ib.day (omega arith))
+long-room a b mark Daily h ia ib x y H3 = rw (x.one, y.one, h.at) refl
+long-room a b mark Weekly h ia ib x y H3 = rw (x.one, y.one, h.at) refl
+long-room a b mark kind h ia ib x y H4 = rw (x.one, y.one, x.long, y.long, h.day, h.split, h.reduced) refl
+long-room a b mark kind h ia ib x y H5 = rw (x.one, y.one, x.least, y.least) refl
+long-room a b mark Plain h ia ib x y H6 = rw (x.one, y.one) (none_both 8640 a b a.rest_from b.rest_from h ia.since ib.since (omega arith))
+long-room a b mark Daily h ia ib x y H6 = rw (x.one, y.one) (none_both 8640 a b a.rest_from b.rest_from h ia.since ib.since (omega arith))
+long-room a b mark Weekly h ia ib x y H6 = rw (x.one, y.one, h.at) refl
+long-room a b mark kind h ia ib x y H7 = rw h.drive_week refl
+long-room a b mark kind h ia ib x y H8 = rw (h.drive_week, h.prev_drive) refl
+long-room a b mark kind h ia ib x y H9 = rw (h.work_week, h.work_before) refl
+long-room a b mark kind h ia ib x y H10 = rw (x.pause, y.pause) refl
+long-room a b mark kind h ia ib x y H11 = rw (x.one, y.one, x.pause, y.pause, x.full, y.full, h.work_day) refl
+
+-- the same room for each rule
 pub held-room : (a b : Clock) (mark : Mark) (kind : Kind) → Held a b → RunInside a → RunInside b → (r : Rule) →
     room a (run_ended a kind) mark kind r ≡ room b (run_ended b kind) mark kind r
-held-room a b mark kind h ia ib H1 = let x = long-run a kind h.a_off in let y = long-run b kind h.b_off in rw (x.break, y.break) refl
-held-room a b mark kind h ia ib H2 = let x = long-run a kind h.a_off in let y = long-run b kind h.b_off in
-    rw (x.one, y.one, x.before, y.before, h.drive_day, h.long_days) refl
-held-room a b mark Plain h ia ib H3 = let x = long-run a Plain h.a_off in let y = long-run b Plain h.b_off in
-    rw (x.one, y.one) (none_left 900 a.at a.off a.day_from ia.day (let o = h.a_off in omega arith) ∙ sym (none_left 900 b.at b.off b.day_from ib.day (let o = h.b_off in omega arith)))
-held-room a b mark Daily h ia ib H3 = let x = long-run a Daily h.a_off in let y = long-run b Daily h.b_off in rw (x.one, y.one, h.at) refl
-held-room a b mark Weekly h ia ib H3 = let x = long-run a Weekly h.a_off in let y = long-run b Weekly h.b_off in rw (x.one, y.one, h.at) refl
-held-room a b mark kind h ia ib H4 = let x = long-run a kind h.a_off in let y = long-run b kind h.b_off in
-    rw (x.one, y.one, x.long, y.long, h.day, h.split, h.reduced) refl
-held-room a b mark kind h ia ib H5 = let x = long-run a kind h.a_off in let y = long-run b kind h.b_off in rw (x.one, y.one, x.least, y.least) refl
-held-room a b mark Plain h ia ib H6 = let x = long-run a Plain h.a_off in let y = long-run b Plain h.b_off in
-    rw (x.one, y.one) (none_left 8640 a.at a.off a.rest_from ia.since (let o = h.a_off in omega arith) ∙ sym (none_left 8640 b.at b.off b.rest_from ib.since (let o = h.b_off in omega arith)))
-held-room a b mark Daily h ia ib H6 = let x = long-run a Daily h.a_off in let y = long-run b Daily h.b_off in
-    rw (x.one, y.one) (none_left 8640 a.at a.off a.rest_from ia.since (let o = h.a_off in omega arith) ∙ sym (none_left 8640 b.at b.off b.rest_from ib.since (let o = h.b_off in omega arith)))
-held-room a b mark Weekly h ia ib H6 = let x = long-run a Weekly h.a_off in let y = long-run b Weekly h.b_off in rw (x.one, y.one, h.at) refl
-held-room a b mark kind h ia ib H7 = rw h.drive_week refl
-held-room a b mark kind h ia ib H8 = rw (h.drive_week, h.prev_drive) refl
-held-room a b mark kind h ia ib H9 = rw (h.work_week, h.work_before) refl
-held-room a b mark kind h ia ib H10 = let x = long-run a kind h.a_off in let y = long-run b kind h.b_off in rw (x.pause, y.pause) refl
-held-room a b mark kind h ia ib H11 = let x = long-run a kind h.a_off in let y = long-run b kind h.b_off in
-    rw (x.one, y.one, x.pause, y.pause, full a.off a.pause_day (let o = h.a_off in omega arith), full b.off b.pause_day (let o = h.b_off in omega arith), h.work_day) refl
+held-room a b mark kind h ia ib r = long-room a b mark kind h ia ib (long-run a kind h.a_off) (long-run b kind h.b_off) r
 
 pub held-sym : (a b : Clock) → Held a b → Held b a
 held-sym a b h = record {

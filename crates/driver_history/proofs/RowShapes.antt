@@ -67,19 +67,21 @@ follows-read : (after : Bool) (ss : List Spell) → each_has_minutes ss ≡ true
 follows-read after [] l h = refl
 follows-read after (s ∷ ss) l h = by_offs (follows-read (is_off_word s.word) ss (grind arith)) (after && is_off_word s.word) refl
   where
-    by_offs : (second_off (is_off_word s.word) ss ≡ None → each_follows (is_off_word s.word) (map stint_of ss) ≡ true) → (b : Bool) → (after && is_off_word s.word) ≡ b → each_follows after (map stint_of (s ∷ ss)) ≡ true
+    by_offs : (second_off (is_off_word s.word) ss ≡ None → each_follows (is_off_word s.word) (map stint_of ss) ≡ true) → (b : Bool) →
+        (after && is_off_word s.word) ≡ b → each_follows after (map stint_of (s ∷ ss)) ≡ true
     by_offs go true e = let bad : Some s.row ≡ None = rw e at h in cc
     by_offs go false e =
         let more : second_off (is_off_word s.word) ss ≡ None = rw e at h in
         let rest : each_follows (is_off_word s.word) (map stint_of ss) ≡ true = go more in
         let some : leb 1 s.minutes ≡ true = grind (arith, nat_tests) in
-        rw ((stint-says s.word s.minutes).own_kind, (stint-says s.word s.minutes).off, (stint-says s.word s.minutes).minutes, some, e, rest) refl
+        let it = stint-says s.word s.minutes in rw (it.own_kind, it.off, it.minutes, some, e, rest) refl
 
 pub line-read : (ss : List Spell) → zero_first ss ≡ true → second_off false ss ≡ None → is_line (map stint_of ss) ≡ true
 line-read [] z h = refl
 line-read (s ∷ ss) z h =
     let rest : each_follows (is_off_word s.word) (map stint_of ss) ≡ true = follows-read (is_off_word s.word) ss (grind arith) h in
-    rw ((stint-says s.word s.minutes).own_kind, (stint-says s.word s.minutes).off, (stint-says s.word s.minutes).minutes, rest) (first (is_off_word s.word) s.minutes (grind arith))
+    let it = stint-says s.word s.minutes in
+    rw (it.own_kind, it.off, it.minutes, rest) (first (is_off_word s.word) s.minutes (grind arith))
   where
     first : (off : Bool) (n : ℕ) → cond off true (leb 1 n) ≡ true → (((off && nat_eq n 0) || (leb 1 n && (true && not (false && off)))) && true) ≡ true
     first off n g = grind (arith, nat_tests)

@@ -9,5 +9,6 @@ use Rattle.driver_history.proofs.spells.past_rows.Goals as goal
 pub returns : goal.returns
 returns c =
     items_from_collect {E = ⊤} (Ok c.in_ok-spells.spells) c.in_ok-spells.ensures.ran
-    (YieldsList-from_filter_map _ (past_in c.args.name.now) (YieldsList-from_slice c.args.rows.now cc) c.filter_map.ensures.closure (λ x r q k. search (rules, tests)))
+    (YieldsList-from_filter_map _ (past_in c.args.name.now) (YieldsList-from_slice c.args.rows.now cc) c.filter_map.ensures.closure
+    (λ x r q k. search (rules, tests)))
     ∙ past-rows c.args.name.now c.args.rows.now
