@@ -26,8 +26,11 @@ use Rattle.week_book.specs.Checking.{is_of, depot_fault, fault_of, week_made}
 use Rattle.week_book.specs.Weeks.{IsLeg, IsDriver, IsOrder, same_ends, IsWeek}
 use Rattle.week_book.proofs.Maps.{number_in, number_same}
 use Rattle.week_book.proofs.Apart.{Links, apart, distinct_items, distinct_parts}
-use Rattle.week_book.proofs.History.{each_row_is}
 use Rattle.week_book.proofs.Faultless.{neither, both, IsFaultless, faultless, limited, is_place, kept}
+
+each_row_is : (rows : List Row) → AllByRecursion (λ r. Unit {0}) rows
+each_row_is [] = tt
+each_row_is (r ∷ rs) = (tt, each_row_is rs)
 
 within_is : (first last n : ℕ) → is_within first last n ≡ true → (first ≤ n) × (n ≤ last)
 within_is first last n fits = let parts = both (nat_le first n) (nat_le n last) fits in (leb-true first n parts.0, leb-true n last parts.1)

@@ -1,10 +1,10 @@
 // The first field that lies outside its range.
-ghost use Rattle.std.specs.Prelude.{◌≡◌, false, true, ◌<◌, ◌^◌, ◌∷◌, ◌++◌, length, map, nat_le, IfOk, option_to_list};
+ghost use Rattle.std.specs.Prelude.{◌≡◌, false, true, ◌<◌, ◌^◌, [], ◌∷◌, ◌++◌, length, map, nat_le, IfOk, option_to_list};
 ghost use Rattle.week_book.specs.Names.{is_name};
 ghost use Rattle.week_book.specs.Faults.{row_number, Passes};
 ghost use Rattle.week_book.specs.Ranges.{is_within, is_week_minute, is_close_of, is_grid, is_other_name, is_did_span, did_name, has_begun, fields_in_range, first_outside, range_fault};
 ghost use Rattle.week_book.specs.Checking.{is_of};
-ghost use Rattle.week_book.specs.Texts.{is_checked};
+ghost use Rattle.week_book.specs.Texts.{is_week, is_checked};
 ghost use Rattle.week_book.specs.declared.errors.What.TheVariants.{Orders};
 
 use crate::errors::WeekError;
@@ -106,6 +106,21 @@ fn order_outside(row: &Row) -> Option<WeekError>
     }
 }
 
+fn week_outside(row: u32, load: u64, night: u64, grid: u64) -> Option<WeekError>
+    ensures { result ≡ first_outside row 2 (true ∷ is_within 1 240 load ∷ nat_le night 1000000 ∷ is_grid grid ∷ []) }
+{
+    let load = is_within(1, 240, load);
+    first_outside(row, &[true, load, night <= 1_000_000, is_grid(grid)])
+}
+
+fn leg_outside(row: u32, from: &[u8], to: &[u8], minutes: u64, cents: u64) -> Option<WeekError>
+    ensures { result ≡ first_outside row 2 (is_name from.now ∷ is_other_name from.now to.now ∷ is_within 1 270 minutes ∷ nat_le cents 1000000 ∷ []) }
+{
+    let minutes = is_within(1, 270, minutes);
+    let cents = cents <= 1_000_000;
+    first_outside(row, &[is_name(from), is_other_name(from, to), minutes, cents])
+}
+
 fn worked_outside(row: u32, driver: &[u8], last: u64, weeks: &[u64; 16]) -> Option<WeekError>
     ensures { result ≡ first_outside row 2 (is_name driver.now ∷ nat_le last 10080 ∷ map (λ m. nat_le m 10080) weeks.now) }
 {
@@ -118,20 +133,24 @@ fn worked_outside(row: u32, driver: &[u8], last: u64, weeks: &[u64; 16]) -> Opti
     weeks_outside(row, weeks)
 }
 
+fn past_outside(row: u32, driver: &[u8], minutes: u64) -> Option<WeekError>
+    ensures { result ≡ first_outside row 2 (is_name driver.now ∷ true ∷ is_within 1 2000000 minutes ∷ []) }
+{
+    let minutes = is_within(1, 2_000_000, minutes);
+    first_outside(row, &[is_name(driver), true, minutes])
+}
+
+fn did_outside(begun: bool, row: u32, driver: &[u8], word: Word, minutes: u64) -> Option<WeekError>
+    ensures { result ≡ first_outside row 2 (is_name driver.now ∷ true ∷ is_did_span begun word minutes ∷ []) }
+{
+    let minutes = is_did_span(begun, word, minutes);
+    first_outside(row, &[is_name(driver), true, minutes])
+}
+
 fn history_outside(begun: bool, row: &Row) -> Option<WeekError>
-    ensures { is_checked row.now ≡ true → result ≡ first_outside (row_number row.now) 2 (fields_in_range begun row.now) }
+    ensures { is_checked row.now ≡ true → is_week row.now ≡ false → result ≡ first_outside (row_number row.now) 2 (fields_in_range begun row.now) }
 {
     match row {
-        Row::Week {
-            row,
-            load,
-            night,
-            grid,
-            ..
-        } => {
-            let load = is_within(1, 240, *load);
-            first_outside(*row, &[true, load, *night <= 1_000_000, is_grid(*grid)])
-        }
         Row::Rest {
             row,
             driver,
@@ -152,19 +171,13 @@ fn history_outside(begun: bool, row: &Row) -> Option<WeekError>
             driver,
             minutes,
             ..
-        } => {
-            let minutes = is_within(1, 2_000_000, *minutes);
-            first_outside(*row, &[is_name(driver.as_slice()), true, minutes])
-        }
+        } => past_outside(*row, driver.as_slice(), *minutes),
         Row::Did {
             row,
             driver,
             word,
             minutes,
-        } => {
-            let minutes = is_did_span(begun, *word, *minutes);
-            first_outside(*row, &[is_name(driver.as_slice()), true, minutes])
-        }
+        } => did_outside(begun, *row, driver.as_slice(), *word, *minutes),
         _ => None,
     }
 }
@@ -173,6 +186,13 @@ fn outside(begun: bool, row: &Row) -> Option<WeekError>
     ensures { result ≡ first_outside (row_number row.now) 2 (fields_in_range begun row.now) }
 {
     match row {
+        Row::Week {
+            row,
+            load,
+            night,
+            grid,
+            ..
+        } => week_outside(*row, *load, *night, *grid),
         Row::Place { row, name } => first_outside(*row, &[is_name(name.as_slice())]),
         Row::Leg {
             row,
@@ -180,19 +200,7 @@ fn outside(begun: bool, row: &Row) -> Option<WeekError>
             to,
             minutes,
             cents,
-        } => {
-            let (from, to) = (from.as_slice(), to.as_slice());
-            let minutes = is_within(1, 270, *minutes);
-            first_outside(
-                *row,
-                &[
-                    is_name(from),
-                    is_other_name(from, to),
-                    minutes,
-                    *cents <= 1_000_000,
-                ],
-            )
-        }
+        } => leg_outside(*row, from.as_slice(), to.as_slice(), *minutes, *cents),
         Row::Driver {
             row,
             name,
