@@ -1,6 +1,6 @@
 -- No two rows without a double have the same key, and so no two items of a kind are the same.
-use Rattle.std.proofs.Common.{◌≡◌, ◌∙◌, ℕ, ◌≤◌, Bool, true, false, ◌||◌, if◌then◌else◌, Option, Some, None, List, [], ◌∷◌, ◌++◌, length, map, filter_map, refl, sym, ap, arith}
-use Rattle.std.proofs.lemmas.Bool.{false≢true}
+use Rattle.std.proofs.Common.{◌≡◌, ◌∙◌, ℕ, Bool, true, false, if◌then◌else◌, Option, Some, None, List, [], ◌∷◌, ◌++◌, map, filter_map, refl, sym, ap}
+use Rattle.std.proofs.lemmas.Bool.{false≢true, or_parts, or_right}
 use Rattle.std.specs.List.{IsDistinct, AllByRecursion, cons_option}
 use Rattle.std.specs.Str.{bytes_eq}
 use Rattle.std.specs.Cmp.Lexicographic.{bytes_decides}
@@ -37,23 +37,15 @@ new_row before r none key is = let h = rw is at none in known_case (is_among (fi
 new_before : (before : List Row) (r s : Row) → IsNew (filter_map key_of (before ++ r ∷ [])) s → IsNew (filter_map key_of before) s
 new_before before r s new key is = by_key (key_of r) refl
   where
-    or_case : (a b : Bool) → (a || b) ≡ false → a ≡ false
-    or_case true b h = h
-    or_case false b h = refl
-
     by_key : (other : Option (List ℕ)) → key_of r ≡ other → is_among (filter_map key_of before) key ≡ false
     by_key None none = ap (λ (keys : List (List ℕ)). is_among keys key) (sym (mapped_none key_of before r none)) ∙ new key is
-    by_key (Some other) some = or_case _ (bytes_eq key other)
-        (sym (any_more (bytes_eq key) (filter_map key_of before) other) ∙ ap (λ (keys : List (List ℕ)). is_among keys key) (sym (mapped_some key_of before r other some)) ∙ new key is)
-
-or_last : (a b : Bool) → b ≡ true → (a || b) ≡ true
-or_last true b h = refl
-or_last false b h = h
+    by_key (Some other) some = (or_parts (is_among (filter_map key_of before) key) (bytes_eq key other)
+        (sym (any_more (bytes_eq key) (filter_map key_of before) other) ∙ ap (λ (keys : List (List ℕ)). is_among keys key) (sym (mapped_some key_of before r other some)) ∙ new key is)).0
 
 new_after : (before : List Row) (r s : Row) → IsNew (filter_map key_of (before ++ r ∷ [])) s → IsApart r s
 new_after before r s new key of_r of_s =
     false≢true (sym (new key of_s) ∙ ap (λ (keys : List (List ℕ)). is_among keys key) (mapped_some key_of before r key of_r)
-    ∙ any_more (bytes_eq key) (filter_map key_of before) key ∙ or_last _ (bytes_eq key key) ((bytes_decides key key).1 refl))
+    ∙ any_more (bytes_eq key) (filter_map key_of before) key ∙ or_right _ (bytes_eq key key) ((bytes_decides key key).1 refl))
 
 each_weaker : {P Q : Row → Type 0} → ((r : Row) → P r → Q r) → (rows : List Row) → AllByRecursion P rows → AllByRecursion Q rows
 each_weaker f [] h = h
@@ -116,9 +108,8 @@ unfolding IsDistinct
 distinct_parts f same [] h = tt
 distinct_parts f same (x ∷ xs) h = (mapped_apart f same x xs h.0, distinct_parts f same xs h.1)
 
--- at most one item where all are the same
-pub at_most_one : {X : Type 0} (xs : List X) → IsDistinct (λ x y. true) xs → length xs ≤ 1
-unfolding IsDistinct
-at_most_one [] h = omega arith
-at_most_one (x ∷ []) h = omega arith
-at_most_one (x ∷ (y ∷ ys)) h = absurd (false≢true (sym h.0.0))
+-- items that have names, where a row's key is its kind and the name
+pub distinct_names : {X : Type 0} (P : Row → Type 0) (h : Row → Option X) (kind : ℕ) (name : X → List ℕ) → ((r : Row) (x : X) → h r ≡ Some x → key_of r ≡ Some (kind ∷ name x))
+    → (rows : List Row) → AllByRecursion P rows → AreApart rows → IsDistinct (λ x y. bytes_eq (name x) (name y)) (filter_map h rows)
+distinct_names P h kind name key = distinct_items P h (λ x y. bytes_eq (name x) (name y))
+    (λ r s x y of_r of_s is_x is_y same. (kind ∷ name x, key r x is_x, key s y is_y ∙ ap (λ (who : List ℕ). Some (kind ∷ who)) (sym ((bytes_decides (name x) (name y)).0 same))))

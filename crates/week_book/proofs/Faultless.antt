@@ -1,6 +1,6 @@
 -- What holds of rows in which no fault was found.
 use Rattle.std.proofs.Common.{◌≡◌, ℕ, ◌+◌, ◌≤◌, Bool, true, false, not, ◌&&◌, ◌||◌, cond, if◌then◌else◌, nat_le, Option, Some, None, Result, Ok, Err, OnOk, List, [], ◌∷◌, ◌++◌, length, count_by, filter_map, refl, sym, arith}
-use Rattle.std.proofs.lemmas.Bool.{false≢true, leb-true}
+use Rattle.std.proofs.lemmas.Bool.{false≢true, leb-true, and_parts, and_from}
 use Rattle.std.proofs.lemmas.List.Recursion.{is_count_by}
 use Rattle.std.specs.List.{list_all, cons_option}
 use Rattle.std.specs.Option.{is_some, option_or}
@@ -23,15 +23,6 @@ use Rattle.week_book.specs.Checking.{is_of, limit_of, too_many, count_fault, cou
 pub neither : {A : Type 0} (a b : Option A) → option_or a b ≡ None → (a ≡ None) × (b ≡ None)
 neither None b none = (refl, none)
 neither (Some a) b none = absurd cc
-
--- both of two
-pub both : (a b : Bool) → (a && b) ≡ true → (a ≡ true) × (b ≡ true)
-both true true both_are = (refl, refl)
-both true false not_both = absurd (false≢true not_both)
-both false b not_both = absurd (false≢true not_both)
-
-pub join : (a b : Bool) → a ≡ true → b ≡ true → (a && b) ≡ true
-join a b p q = rw (p, q) refl
 
 -- no fault of a week text
 pub record IsFaultless (rows : List Row) : Type 0 where
@@ -66,13 +57,14 @@ faultless rows none =
       names = names.0;
     }
 
-few_case : (few : Bool) (e : WeekError) → (if few then None else Some e) ≡ None → few ≡ true
-few_case true e none = refl
-few_case false e none = absurd cc
+-- a test that finds no fault is passed
+pub passed : (test : Bool) (e : WeekError) → (if test then None else Some e) ≡ None → test ≡ true
+passed true e none = refl
+passed false e none = absurd cc
 
 -- a number that is not too many is in the limit
 pub few : (what : What) (n : ℕ) → too_many what n ≡ None → nat_le n (limit_of what) ≡ true
-few what n none = few_case (nat_le n (limit_of what)) _ none
+few what n none = passed (nat_le n (limit_of what)) _ none
 
 counted_case : {B : Type 0} (o : Option B) (p : Bool) (xs : List B) → is_some o ≡ p → length (cons_option o xs) ≡ cond p (1 + length xs) (length xs)
 counted_case None true xs same = absurd (false≢true same)
@@ -93,15 +85,8 @@ limited what h same rows none =
 
 -- a place row adds a place
 pub is_place : (r : Row) → is_some (place_in r) ≡ is_of Places r
-is_place (row.Week n monday load night grid) = refl
 is_place (row.Place n name) = refl
-is_place (row.Leg n from to minutes cents) = refl
-is_place (row.Driver n name capacity fee) = refl
-is_place (row.Rest n driver end minutes) = refl
-is_place (row.Worked n driver last weeks) = refl
-is_place (row.Past n driver mark minutes) = refl
-is_place (row.Did n driver mark minutes) = refl
-is_place (row.Order n name place opens closes service kg price) = refl
+is_place _ = refl
 
 -- at most 64 places
 pub few_places : (rows : List Row) → fault_of rows ≡ None → length (places_of rows) ≤ 64
@@ -126,25 +111,18 @@ span_case false lasts off begun fits = fits
 
 -- a row in its ranges after others is so as the first, too
 kept_row : (begun : Bool) (r : Row) → list_all (λ is_in. is_in) (fields_in_range begun r) ≡ true → keeps_ranges r ≡ true
-kept_row begun (row.Week n monday load night grid) fits = fits
-kept_row begun (row.Place n name) fits = fits
-kept_row begun (row.Leg n from to minutes cents) fits = fits
-kept_row begun (row.Driver n name capacity fee) fits = fits
-kept_row begun (row.Rest n driver end minutes) fits = fits
-kept_row begun (row.Worked n driver last weeks) fits = fits
-kept_row begun (row.Past n driver mark minutes) fits = fits
 kept_row begun (row.Did n driver mark minutes) fits =
-    let parts = both (is_name driver) (is_did_span begun mark minutes && true) fits in
-    let span = both (is_did_span begun mark minutes) true parts.1 in
-    join _ _ parts.0 (join _ _ (span_case (nat_le minutes 10080) (nat_le 1 minutes) (is_off_word mark) begun span.0) refl)
-kept_row begun (row.Order n name place opens closes service kg price) fits = fits
+    let parts = and_parts (is_name driver) (is_did_span begun mark minutes && true) fits in
+    let span = and_parts (is_did_span begun mark minutes) true parts.1 in
+    and_from _ _ parts.0 (and_from _ _ (span_case (nat_le minutes 10080) (nat_le 1 minutes) (is_off_word mark) begun span.0) refl)
+kept_row begun _ fits = fits
 
 -- rows without a range fault keep their ranges
 pub kept : (before rows : List Row) → first_fault range_of before rows ≡ None → each_row keeps_ranges rows ≡ true
 kept before [] none = refl
 kept before (r ∷ rs) none =
     let here = neither (range_of before r) _ none in
-    join _ _ (kept_row (has_begun (did_names before) r) r (none_outside (row_number r) 2 (fields_in_range (has_begun (did_names before) r) r) here.0)) (kept (before ++ r ∷ []) rs here.1)
+    and_from _ _ (kept_row (has_begun (did_names before) r) r (none_outside (row_number r) 2 (fields_in_range (has_begun (did_names before) r) r) here.0)) (kept (before ++ r ∷ []) rs here.1)
 
 -- the first fault is what the text is refused by
 pub refused : {A : Type 0} (fault : Option WeekError) (made : Result A WeekError) (e : WeekError) → fault ≡ Some e → unless_faulty fault made ≡ Err e

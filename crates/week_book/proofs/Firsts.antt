@@ -1,5 +1,6 @@
 -- The first fault is that of a row before which no row has one.
 use Rattle.std.proofs.Common.{◌≡◌, ◌∙◌, ℕ, Option, Some, None, List, [], ◌∷◌, ◌++◌, slice_get, refl, sym, ap, append_assoc, arith}
+use Rattle.std.proofs.lemmas.List.{append-nil}
 use Rattle.std.proofs.lemmas.Option.{slice_get-get_or}
 use Rattle.std.specs.Option.{option_or}
 use Rattle.week_book.specs.declared.rows.Row.{Row}
@@ -8,10 +9,7 @@ use Rattle.week_book.specs.Names.{number_of}
 use Rattle.week_book.specs.Faults.{first_fault, IsFirst}
 use Rattle.week_book.proofs.Maps.{number_at, number_in}
 
-append_none : {A : Type 0} (xs : List A) → xs ++ [] ≡ xs
-append_none [] = refl
-append_none (x ∷ xs) = ap (λ (ys : List _). x ∷ ys) (append_none xs)
-
+-- the first fault is the first row's, or else that of the rows after it
 pub first_is : (fault : List Row → Row → Option WeekError) (before rows : List Row) (e : WeekError) → first_fault fault before rows ≡ Some e → IsFirst fault before rows e
 first_is fault before [] e is = absurd cc
 first_is fault before (r ∷ rs) e is = by_fault (fault before r) refl is (first_is fault (before ++ r ∷ []) rs e)
@@ -20,7 +18,7 @@ first_is fault before (r ∷ rs) e is = by_fault (fault before r) refl is (first
         → (first_fault fault (before ++ r ∷ []) rs ≡ Some e → IsFirst fault (before ++ r ∷ []) rs e) → IsFirst fault before (r ∷ rs) e
     by_fault (Some f) found is later =
         let h = rw found at is in
-        record { earlier = []; here = r; later = rs; split = refl; is = ap (λ (b : List Row). fault b r) (append_none before) ∙ found ∙ h; none = refl }
+        record { earlier = []; here = r; later = rs; split = refl; is = ap (λ (b : List Row). fault b r) (append-nil before) ∙ found ∙ h; none = refl }
     by_fault None found is later =
         let h = rw found at is in
         let first = later h in

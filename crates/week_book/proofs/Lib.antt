@@ -6,5 +6,7 @@ pub mod Meetings
 pub mod Apart
 pub mod Spells
 pub mod History
+pub mod Sound
+pub mod ItemKeys
 pub mod Checked
 pub mod Firsts

@@ -1,5 +1,6 @@
 -- What one more key does to the map of the keys so far.
-use Rattle.std.proofs.Common.{◌≡◌, ◌∙◌, ℕ, zero, suc, ◌+◌, ◌<◌, ◌≤◌, Bool, true, false, cond, ◌||◌, Option, Some, None, List, [], ◌∷◌, ◌++◌, length, map, get_or, refl, sym, ap, arith}
+use Rattle.std.proofs.Common.{◌≡◌, ◌∙◌, ℕ, zero, suc, ◌+◌, ◌<◌, ◌≤◌, Bool, true, false, cond, ◌||◌, Option, Some, None, List, [], ◌∷◌, ◌++◌, length, get_or, refl, sym, ap, arith}
+use Rattle.std.proofs.Math.Bool.{or-false}
 use Rattle.std.proofs.lemmas.Bool.{false≢true}
 use Rattle.std.proofs.lemmas.List.Folds.{list_any-append}
 use Rattle.std.specs.List.{list_any}
@@ -9,13 +10,9 @@ use Rattle.std.specs.Str.{bytes_eq}
 use Rattle.std.specs.Cmp.Lexicographic.{bytes_decides, nat_list_eq_equiv}
 use Rattle.week_book.specs.Names.{number_from}
 
-or_false : (b : Bool) → (b || false) ≡ b
-or_false true = refl
-or_false false = refl
-
 -- a test of one more item
 pub any_more : {A : Type 0} (p : A → Bool) (xs : List A) (x : A) → list_any p (xs ++ x ∷ []) ≡ (list_any p xs || p x)
-any_more p xs x = list_any-append p xs (x ∷ []) ∙ ap (λ (b : Bool). list_any p xs || b) (or_false (p x))
+any_more p xs x = list_any-append p xs (x ∷ []) ∙ ap (λ (b : Bool). list_any p xs || b) (or-false (p x))
 
 -- numbers
 none_is : (o : Option ℕ) → is_some o ≡ false → o ≡ None
@@ -48,10 +45,6 @@ number_case false n k x y d h = h
 pub number_more : (n k : ℕ) (ps : List (List ℕ)) (p q : List ℕ) → k ≡ n + length ps → number_from n (ps ++ p ∷ []) q ≡ option_or (number_from n ps q) (cond (bytes_eq q p) (Some k) None)
 number_more n k [] p q e = let f : n ≡ k = omega (arith, e) in rw f refl
 number_more n k (r ∷ ps) p q e = number_case (bytes_eq q r) n k _ _ _ (number_more (n + 1) k ps p q (omega (arith, e)))
-
-pub mapped_length : {A B : Type 0} (f : A → B) (xs : List A) → length (map f xs) ≡ length xs
-mapped_length f [] = refl
-mapped_length f (x ∷ xs) = omega (arith, mapped_length f xs)
 
 pub number_among : (n : ℕ) (names : List (List ℕ)) (q : List ℕ) → is_some (number_from n names q) ≡ list_any (bytes_eq q) names
 number_among n [] q = refl

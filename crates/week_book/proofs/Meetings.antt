@@ -10,15 +10,8 @@ more_case true names name = omega arith
 more_case false names name = omega (arith, length-append names (name ∷ []))
 
 meet_length : (names : List (List ℕ)) (r : Row) → length (meet names r) ≤ length names + 1
-meet_length names (row.Week n monday load night grid) = omega arith
-meet_length names (row.Place n name) = omega arith
-meet_length names (row.Leg n from to minutes cents) = omega arith
-meet_length names (row.Driver n name capacity fee) = omega arith
-meet_length names (row.Rest n driver end minutes) = omega arith
-meet_length names (row.Worked n driver last weeks) = omega arith
-meet_length names (row.Past n driver mark minutes) = omega arith
 meet_length names (row.Did n driver mark minutes) = more_case (is_among names driver) names driver
-meet_length names (row.Order n name place opens closes service kg price) = omega arith
+meet_length names _ = omega arith
 
 -- no more drivers than rows
 pub driven_length : (names : List (List ℕ)) (rows : List Row) → length (fold meet names rows) ≤ length names + length rows

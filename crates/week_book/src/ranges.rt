@@ -118,7 +118,10 @@ fn leg_outside(row: u32, from: &[u8], to: &[u8], minutes: u64, cents: u64) -> Op
 {
     let minutes = is_within(1, 270, minutes);
     let cents = cents <= 1_000_000;
-    first_outside(row, &[is_name(from), is_other_name(from, to), minutes, cents])
+    first_outside(
+        row,
+        &[is_name(from), is_other_name(from, to), minutes, cents],
+    )
 }
 
 fn worked_outside(row: u32, driver: &[u8], last: u64, weeks: &[u64; 16]) -> Option<WeekError>
