@@ -20,9 +20,10 @@ use Rattle.week_book.specs.Texts.{each_row}
 use Rattle.week_book.specs.Numbers.{place_in, driver_in, leg_in, order_in, places_of, drivers_of, driver_names}
 use Rattle.week_book.specs.Checking.{is_of, fault_of, week_made}
 use Rattle.week_book.specs.Weeks.{IsLeg, IsDriver, IsOrder, AreNames, same_ends, IsWeek}
-use Rattle.week_book.proofs.Apart.{apart, distinct_items, distinct_names, distinct_parts}
+use Rattle.week_book.proofs.Apart.{apart}
+use Rattle.week_book.proofs.Items.{all_items, distinct_items, distinct_names, distinct_parts}
 use Rattle.week_book.proofs.Faultless.{IsFaultless, faultless, limited, passed, is_place, kept}
-use Rattle.week_book.proofs.Sound.{IsNamedDriver, IsNamedOrder, sound, all_items, within_is, leg_is, driver_is, order_is, place_is}
+use Rattle.week_book.proofs.Sound.{IsNamedDriver, IsNamedOrder, sound, within_is, leg_is, driver_is, order_is, place_is}
 use Rattle.week_book.proofs.ItemKeys.{place_key, driver_key, order_key, leg_links}
 
 is_leg : (places : List (List ℕ)) (r : Row) → is_some (leg_in places r) ≡ is_of Legs r

@@ -12,7 +12,7 @@ use Rattle.week_book.specs.Keys.{key_of}
 use Rattle.week_book.specs.Numbers.{numbered, place_in, driver_in, leg_in, order_in, unknown_name}
 use Rattle.week_book.specs.Weeks.{same_ends}
 use Rattle.week_book.proofs.Maps.{number_same}
-use Rattle.week_book.proofs.Apart.{Links}
+use Rattle.week_book.proofs.Items.{Links}
 use Rattle.week_book.proofs.Faultless.{neither}
 use Rattle.week_book.proofs.Sound.{IsSound, known_number}
 

@@ -4,6 +4,7 @@ pub mod Doubles
 pub mod Faultless
 pub mod Meetings
 pub mod Apart
+pub mod Items
 pub mod Spells
 pub mod History
 pub mod Sound

@@ -1,8 +1,7 @@
 -- What the items of rows keep, where each row is in its ranges and its names are known.
-use Rattle.std.proofs.Common.{◌≡◌, ◌≢◌, ◌∙◌, ℕ, ◌≤◌, true, not, nat_le, nat_abs, ℤ, pos, negsuc, int_le, Option, Some, None, List, [], ◌∷◌, length, filter_map, All, unwrap_or, refl, sym, ap, subst}
+use Rattle.std.proofs.Common.{◌≡◌, ◌≢◌, ◌∙◌, ℕ, ◌≤◌, true, not, nat_le, nat_abs, ℤ, pos, negsuc, int_le, Option, Some, None, List, [], ◌∷◌, length, unwrap_or, refl, sym, ap, subst}
 use Rattle.std.proofs.lemmas.Bool.{false≢true, leb-true, and_parts}
-use Rattle.std.proofs.lemmas.List.Elements.{All-nil, All-cons}
-use Rattle.std.specs.List.{AllByRecursion, cons_option}
+use Rattle.std.specs.List.{AllByRecursion}
 use Rattle.std.specs.Str.{bytes_eq}
 use Rattle.week_book.specs.declared.rows.Row.{Row}
 use Rattle.week_book.specs.declared.rows.Row.TheVariants as row
@@ -29,15 +28,6 @@ sound places drivers (r ∷ rs) fits none =
     let here = and_parts (keeps_ranges r) _ fits in
     let known = neither (unknown_of places drivers r) _ none in
     (record { fits = here.0; known = known.0 }, sound places drivers rs here.1 known.1)
-
-all_case : {X : Type 0} (P : X → Type 0) (o : Option X) (xs : List X) → ((x : X) → o ≡ Some x → P x) → All P xs → All P (cons_option o xs)
-all_case P None xs here others = others
-all_case P (Some x) xs here others = All-cons P x xs (here x refl) others
-
--- what each item has, from what each row has
-pub all_items : {X : Type 0} (Q : Row → Type 0) (h : Row → Option X) (P : X → Type 0) → ((r : Row) (x : X) → Q r → h r ≡ Some x → P x) → (rows : List Row) → AllByRecursion Q rows → All P (filter_map h rows)
-all_items Q h P each [] all = All-nil P
-all_items Q h P each (r ∷ rs) all = all_case P (h r) (filter_map h rs) (λ x is. each r x all.0 is) (all_items Q h P each rs all.1)
 
 pub within_is : (first last n : ℕ) → is_within first last n ≡ true → (first ≤ n) × (n ≤ last)
 within_is first last n fits = let parts = and_parts (nat_le first n) (nat_le n last) fits in (leb-true first n parts.0, leb-true n last parts.1)
