@@ -1,5 +1,5 @@
 -- No two rows without a double have the same key.
-use Rattle.std.proofs.Common.{◌≡◌, ◌∙◌, ℕ, Bool, true, false, if◌then◌else◌, Option, Some, None, List, [], ◌∷◌, ◌++◌, filter_map, refl, sym, ap}
+use Rattle.std.proofs.Common.{◌≡◌, ◌∙◌, ℕ, Bool, true, false, if◌then◌else◌, Option, Some, None, List, [], ◌∷◌, ◌++◌, filter_map, refl, sym}
 use Rattle.std.proofs.lemmas.Bool.{false≢true, or_parts, or_right}
 use Rattle.std.specs.List.{AllByRecursion}
 use Rattle.std.specs.Str.{bytes_eq}
@@ -9,8 +9,7 @@ use Rattle.week_book.specs.declared.errors.WeekError.{WeekError}
 use Rattle.week_book.specs.Names.{is_among}
 use Rattle.week_book.specs.Faults.{first_fault}
 use Rattle.week_book.specs.Keys.{key_of, double_of}
-use Rattle.week_book.proofs.Maps.{any_more}
-use Rattle.week_book.proofs.Seen.{mapped_some, mapped_none}
+use Rattle.week_book.proofs.Seen.{among_some, among_none}
 use Rattle.week_book.proofs.Faultless.{neither}
 
 -- a key of none of the rows
@@ -38,21 +37,20 @@ new_before : (before : List Row) (r s : Row) → IsNew (filter_map key_of (befor
 new_before before r s new key is = by_key (key_of r) refl
   where
     by_key : (other : Option (List ℕ)) → key_of r ≡ other → is_among (filter_map key_of before) key ≡ false
-    by_key None none = ap (λ (keys : List (List ℕ)). is_among keys key) (sym (mapped_none key_of before r none)) ∙ new key is
-    by_key (Some other) some = (or_parts (is_among (filter_map key_of before) key) (bytes_eq key other)
-        (sym (any_more (bytes_eq key) (filter_map key_of before) other) ∙ ap (λ (keys : List (List ℕ)). is_among keys key) (sym (mapped_some key_of before r other some)) ∙ new key is)).0
+    by_key None none = sym (among_none key_of before r key none) ∙ new key is
+    by_key (Some other) some = (or_parts _ (bytes_eq key other) (sym (among_some key_of before r other key some) ∙ new key is)).0
 
 new_after : (before : List Row) (r s : Row) → IsNew (filter_map key_of (before ++ r ∷ [])) s → IsApart r s
 new_after before r s new key of_r of_s =
-    false≢true (sym (new key of_s) ∙ ap (λ (keys : List (List ℕ)). is_among keys key) (mapped_some key_of before r key of_r)
-    ∙ any_more (bytes_eq key) (filter_map key_of before) key ∙ or_right _ (bytes_eq key key) ((bytes_decides key key).1 refl))
+    false≢true (sym (new key of_s) ∙ among_some key_of before r key key of_r ∙ or_right _ (bytes_eq key key) ((bytes_decides key key).1 refl))
 
 each_weaker : {P Q : Row → Type 0} → ((r : Row) → P r → Q r) → (rows : List Row) → AllByRecursion P rows → AllByRecursion Q rows
 each_weaker f [] h = h
 each_weaker f (r ∷ rs) h = (f r h.0, each_weaker f rs h.1)
 
 -- without a double each row is new, and no two have a common key
-apart_after : (before rows : List Row) → first_fault double_of before rows ≡ None → AllByRecursion (IsNew (filter_map key_of before)) rows × AreApart rows
+apart_after : (before rows : List Row) → first_fault double_of before rows ≡ None
+    → AllByRecursion (IsNew (filter_map key_of before)) rows × AreApart rows
 apart_after before [] none = (tt, tt)
 apart_after before (r ∷ rs) none =
     let here = neither (double_of before r) _ none in

@@ -48,22 +48,26 @@ grid_is grid fits = by_test (grid == 15) (grid == 30) (grid == 60) (eqb-true gri
 
 some_place : (rows : List Row) → list_any (is_of Places) rows ≡ true → 1 ≤ length (places_of rows)
 some_place [] there = absurd (false≢true there)
-some_place (r ∷ rs) there = some_case (place_in r) (is_of Places r) (list_any (is_of Places) rs) (places_of rs) (is_place r) there (some_place rs)
+some_place (r ∷ rs) there =
+    some_case (place_in r) (is_of Places r) (list_any (is_of Places) rs) (places_of rs) (is_place r) there (some_place rs)
   where
-    some_case : (o : Option (List ℕ)) (here later : Bool) (xs : List (List ℕ)) → is_some o ≡ here → (here || later) ≡ true → (later ≡ true → 1 ≤ length xs) → 1 ≤ length (cons_option o xs)
+    some_case : (o : Option (List ℕ)) (here later : Bool) (xs : List (List ℕ)) → is_some o ≡ here → (here || later) ≡ true
+        → (later ≡ true → 1 ≤ length xs) → 1 ≤ length (cons_option o xs)
     some_case (Some x) here later xs is there more = omega arith
     some_case None true later xs is there more = absurd (false≢true is)
     some_case None false later xs is there more = more there
 
 -- the names of items that each have a name, where no two have the same
-are_names : {X : Type 0} (name : X → List ℕ) (items : List X) → All (λ x. is_name (name x) ≡ true) items → IsDistinct (λ x y. bytes_eq (name x) (name y)) items → AreNames (map name items)
+are_names : {X : Type 0} (name : X → List ℕ) (items : List X) → All (λ x. is_name (name x) ≡ true) items
+    → IsDistinct (λ x y. bytes_eq (name x) (name y)) items → AreNames (map name items)
 are_names name items formed distinct = record {
   formed = All-map (λ (n : List ℕ). is_name n ≡ true) name items formed;
   distinct = distinct_parts name bytes_eq items distinct;
 }
 
 -- the week of rows without faults is a checked one
-made_is : (rows others : List Row) (week : Week) → IsFaultless rows → each_row keeps_ranges rows ≡ true → each_row keeps_ranges others ≡ true → week_made rows others ≡ Ok week → IsWeek week
+made_is : (rows others : List Row) (week : Week) → IsFaultless rows → each_row keeps_ranges rows ≡ true
+    → each_row keeps_ranges others ≡ true → week_made rows others ≡ Ok week → IsWeek week
 made_is rows [] week none fits first is = absurd cc
 made_is rows (row.Week n monday load night grid ∷ rs) week none fits first is =
     let places = places_of rows in
@@ -84,7 +88,11 @@ made_is rows (row.Week n monday load night grid ∷ rs) week none fits first is 
       night = leb-true night 1000000 in_night.0;
       grid = grid_is grid in_grid.0;
       places = (some_place rows (passed _ _ none.depot), limited Places place_in is_place rows none.places);
-      few = (limited Legs (leg_in places) (is_leg places) rows none.legs, limited Drivers driver_in is_driver rows none.drivers, limited Orders (order_in places) (is_order places) rows none.orders);
+      few = (
+        limited Legs (leg_in places) (is_leg places) rows none.legs,
+        limited Drivers driver_in is_driver rows none.drivers,
+        limited Orders (order_in places) (is_order places) rows none.orders,
+      );
       legs = all_items _ (leg_in places) (IsLeg (length places)) (leg_is places names) rows all;
       drivers = All-weaker IsNamedDriver IsDriver (λ d both. both.0) (drivers_of rows) drivers;
       orders = All-weaker (IsNamedOrder (length places)) (IsOrder (length places)) (λ o both. both.0) orders order_list;
@@ -92,15 +100,21 @@ made_is rows (row.Week n monday load night grid ∷ rs) week none fits first is 
         formed = all_items _ place_in (λ (name : List ℕ). is_name name ≡ true) (place_is places names) rows all;
         distinct = distinct_names _ place_in 1 (λ name. name) place_key rows all far;
       };
-      driver_names = are_names (λ (d : Driver). d.name) (drivers_of rows) (All-weaker IsNamedDriver _ (λ d both. both.1) (drivers_of rows) drivers)
+      driver_names = are_names (λ (d : Driver). d.name) (drivers_of rows)
+          (All-weaker IsNamedDriver _ (λ d both. both.1) (drivers_of rows) drivers)
           (distinct_names _ driver_in 3 (λ (d : Driver). d.name) driver_key rows all far);
-      order_names = are_names (λ (o : Order). o.name) orders (All-weaker (IsNamedOrder (length places)) _ (λ o both. both.1) orders order_list)
+      order_names = are_names (λ (o : Order). o.name) orders
+          (All-weaker (IsNamedOrder (length places)) _ (λ o both. both.1) orders order_list)
           (distinct_names _ (order_in places) 6 (λ (o : Order). o.name) (order_key places) rows all far);
       ends = distinct_items _ (leg_in places) same_ends (leg_links places names) rows all far;
     })
 made_is rows (_ ∷ rs) week none fits first is = absurd cc
 
 -- a week that was made of rows without faults
-pub made_checked : (r : Result Week WeekError) (rows : List Row) → fault_of rows ≡ None → Gives Memory (λ (week : Week). week) r (week_made rows rows) → IfOk r IsWeek
-made_checked (Ok week) rows none gives = let clean = faultless rows none in let fits = kept [] rows clean.ranges in made_is rows rows week clean fits fits gives
+pub made_checked : (r : Result Week WeekError) (rows : List Row) → fault_of rows ≡ None
+    → Gives Memory (λ (week : Week). week) r (week_made rows rows) → IfOk r IsWeek
+made_checked (Ok week) rows none gives =
+    let clean = faultless rows none in
+    let fits = kept [] rows clean.ranges in
+    made_is rows rows week clean fits fits gives
 made_checked (Err e) rows none gives = tt

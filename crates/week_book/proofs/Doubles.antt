@@ -37,6 +37,8 @@ step before r ks rest (Some key) e same =
     (choice (is_among (filter_map key_of before) key) (row_number r) rest _
     (same ∙ ap (λ (seen : List (List ℕ)). option_map Double (repeat_after seen ks)) (mapped_some key_of before r key e)))
 
-pub double_is : (before rows : List Row) → first_fault double_of before rows ≡ option_map Double (repeat_after (filter_map key_of before) (filter_map keyed_of rows))
+pub double_is : (before rows : List Row)
+    → first_fault double_of before rows ≡ option_map Double (repeat_after (filter_map key_of before) (filter_map keyed_of rows))
 double_is before [] = refl
-double_is before (r ∷ rs) = step before r (filter_map keyed_of rs) (first_fault double_of (before ++ r ∷ []) rs) (key_of r) refl (double_is (before ++ r ∷ []) rs)
+double_is before (r ∷ rs) =
+    step before r (filter_map keyed_of rs) (first_fault double_of (before ++ r ∷ []) rs) (key_of r) refl (double_is (before ++ r ∷ []) rs)

@@ -66,18 +66,22 @@ passed false e none = absurd cc
 pub few : (what : What) (n : ℕ) → too_many what n ≡ None → nat_le n (limit_of what) ≡ true
 few what n none = passed (nat_le n (limit_of what)) _ none
 
-counted_case : {B : Type 0} (o : Option B) (p : Bool) (xs : List B) → is_some o ≡ p → length (cons_option o xs) ≡ cond p (1 + length xs) (length xs)
+counted_case : {B : Type 0} (o : Option B) (p : Bool) (xs : List B) → is_some o ≡ p
+    → length (cons_option o xs) ≡ cond p (1 + length xs) (length xs)
 counted_case None true xs same = absurd (false≢true same)
 counted_case None false xs same = refl
 counted_case (Some b) true xs same = omega arith
 counted_case (Some b) false xs same = absurd (false≢true (sym same))
 
 -- as many items as rows of the kind
-counted : {B : Type 0} (h : Row → Option B) (p : Row → Bool) → ((r : Row) → is_some (h r) ≡ p r) → (rows : List Row) → length (filter_map h rows) ≡ count_by p rows
-counted h p same rows = is_count_by (λ (rs : List Row). length (filter_map h rs)) p refl (λ r rs. counted_case (h r) (p r) (filter_map h rs) (same r)) rows
+counted : {B : Type 0} (h : Row → Option B) (p : Row → Bool) → ((r : Row) → is_some (h r) ≡ p r) → (rows : List Row)
+    → length (filter_map h rows) ≡ count_by p rows
+counted h p same rows =
+    is_count_by (λ (rs : List Row). length (filter_map h rs)) p refl (λ r rs. counted_case (h r) (p r) (filter_map h rs) (same r)) rows
 
 -- so many items are in the limit where so many rows are
-pub limited : {B : Type 0} (what : What) (h : Row → Option B) → ((r : Row) → is_some (h r) ≡ is_of what r) → (rows : List Row) → count_fault what rows ≡ None → length (filter_map h rows) ≤ limit_of what
+pub limited : {B : Type 0} (what : What) (h : Row → Option B) → ((r : Row) → is_some (h r) ≡ is_of what r) → (rows : List Row)
+    → count_fault what rows ≡ None → length (filter_map h rows) ≤ limit_of what
 limited what h same rows none =
     let size = counted h (is_of what) same rows in
     let most : count_by (is_of what) rows ≤ limit_of what = leb-true _ _ (few what _ none) in
@@ -122,10 +126,12 @@ pub kept : (before rows : List Row) → first_fault range_of before rows ≡ Non
 kept before [] none = refl
 kept before (r ∷ rs) none =
     let here = neither (range_of before r) _ none in
-    and_from _ _ (kept_row (has_begun (did_names before) r) r (none_outside (row_number r) 2 (fields_in_range (has_begun (did_names before) r) r) here.0)) (kept (before ++ r ∷ []) rs here.1)
+    let begun = has_begun (did_names before) r in
+    and_from _ _ (kept_row begun r (none_outside (row_number r) 2 (fields_in_range begun r) here.0)) (kept (before ++ r ∷ []) rs here.1)
 
 -- the first fault is what the text is refused by
-pub refused : {A : Type 0} (fault : Option WeekError) (made : Result A WeekError) (e : WeekError) → fault ≡ Some e → unless_faulty fault made ≡ Err e
+pub refused : {A : Type 0} (fault : Option WeekError) (made : Result A WeekError) (e : WeekError) → fault ≡ Some e
+    → unless_faulty fault made ≡ Err e
 refused fault made e is = rw is refl
 
 pub accepted : {A : Type 0} (fault : Option WeekError) (made : Result A WeekError) → fault ≡ None → unless_faulty fault made ≡ made

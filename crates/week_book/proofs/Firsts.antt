@@ -10,7 +10,8 @@ use Rattle.week_book.specs.Faults.{first_fault, IsFirst}
 use Rattle.week_book.proofs.Maps.{number_at, number_in}
 
 -- the first fault is the first row's, or else that of the rows after it
-pub first_is : (fault : List Row → Row → Option WeekError) (before rows : List Row) (e : WeekError) → first_fault fault before rows ≡ Some e → IsFirst fault before rows e
+pub first_is : (fault : List Row → Row → Option WeekError) (before rows : List Row) (e : WeekError) → first_fault fault before rows ≡ Some e
+    → IsFirst fault before rows e
 first_is fault before [] e is = absurd cc
 first_is fault before (r ∷ rs) e is = by_fault (fault before r) refl is (first_is fault (before ++ r ∷ []) rs e)
   where

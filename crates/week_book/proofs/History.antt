@@ -67,17 +67,22 @@ one_item items key empty adds (r ∷ rs) far =
     ]
 
 -- a row of one driver adds to the items of that driver alone
-of_driver : {X : Type 0} (items : List Row → List X) (kind : ℕ) (driver name : List ℕ) (r : Row) (rs : List Row) (x : X) → key_of r ≡ Some (kind ∷ driver)
-    → (same : Bool) → bytes_eq driver name ≡ same → items (r ∷ rs) ≡ (if same then x ∷ items rs else items rs) → Adds items (kind ∷ name) r rs
-of_driver items kind driver name r rs x key true is adds = inr (key ∙ ap (λ (who : List ℕ). Some (kind ∷ who)) ((bytes_decides driver name).0 is), x, adds)
+of_driver : {X : Type 0} (items : List Row → List X) (kind : ℕ) (driver name : List ℕ) (r : Row) (rs : List Row) (x : X)
+    → key_of r ≡ Some (kind ∷ driver)
+    → (same : Bool) → bytes_eq driver name ≡ same → items (r ∷ rs) ≡ (if same then x ∷ items rs else items rs)
+    → Adds items (kind ∷ name) r rs
+of_driver items kind driver name r rs x key true is adds =
+    inr (key ∙ ap (λ (who : List ℕ). Some (kind ∷ who)) ((bytes_decides driver name).0 is), x, adds)
 of_driver items kind driver name r rs x key false is adds = inl adds
 
 rest_adds : (name : List ℕ) (r : Row) (rs : List Row) → Adds (rests_of name) (4 ∷ name) r rs
-rest_adds name (row.Rest n driver end minutes) rs = of_driver (rests_of name) 4 driver name (row.Rest n driver end minutes) rs _ refl (bytes_eq driver name) refl refl
+rest_adds name (row.Rest n driver end minutes) rs =
+    of_driver (rests_of name) 4 driver name (row.Rest n driver end minutes) rs _ refl (bytes_eq driver name) refl refl
 rest_adds name _ rs = inl refl
 
 toil_adds : (name : List ℕ) (r : Row) (rs : List Row) → Adds (toils_of name) (5 ∷ name) r rs
-toil_adds name (row.Worked n driver last weeks) rs = of_driver (toils_of name) 5 driver name (row.Worked n driver last weeks) rs _ refl (bytes_eq driver name) refl refl
+toil_adds name (row.Worked n driver last weeks) rs =
+    of_driver (toils_of name) 5 driver name (row.Worked n driver last weeks) rs _ refl (bytes_eq driver name) refl refl
 toil_adds name _ rs = inl refl
 
 -- the rows of a text in which no field is outside its range and no row is a double

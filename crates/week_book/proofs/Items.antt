@@ -34,9 +34,12 @@ Links {X} P h same = (r s : Row) (x y : X) → P r → P s → h r ≡ Some x �
     → (key : List ℕ) × (key_of r ≡ Some key) × (key_of s ≡ Some key)
 
 -- an item is none of the items of rows that its own row is apart from
-item_apart : {X : Type 0} (P : Row → Type 0) (h : Row → Option X) (same : X → X → Bool) → Links P h same → (r : Row) (x : X) → P r → h r ≡ Some x
-    → (rows : List Row) → AllByRecursion P rows → AllByRecursion (IsApart r) rows → AllByRecursion (λ y. same x y ≡ false) (filter_map h rows)
-item_apart P h same links r x of_r is rows all far = each_item (λ s. P s × IsApart r s) h (λ y. same x y ≡ false) differ rows (each_both P (IsApart r) rows all far)
+item_apart : {X : Type 0} (P : Row → Type 0) (h : Row → Option X) (same : X → X → Bool) → Links P h same → (r : Row) (x : X) → P r
+    → h r ≡ Some x
+    → (rows : List Row) → AllByRecursion P rows → AllByRecursion (IsApart r) rows
+    → AllByRecursion (λ y. same x y ≡ false) (filter_map h rows)
+item_apart P h same links r x of_r is rows all far =
+    each_item (λ s. P s × IsApart r s) h (λ y. same x y ≡ false) differ rows (each_both P (IsApart r) rows all far)
   where
     differ : (s : Row) (y : _) → P s × IsApart r s → h s ≡ Some y → same x y ≡ false
     differ s y of_s is_y = false_from_ne_true (same x y) (λ e. let k = links r s x y of_r of_s.0 is is_y e in of_s.1 k.0 k.1 k.2)

@@ -30,19 +30,22 @@ mix_old true (Some x) k h = refl
 mix_old false None k h = refl
 mix_old false (Some x) k h = refl
 
-pub set_new : (f g : List ℕ → Option ℕ) (bs q : List ℕ) (k : ℕ) → is_some (f bs) ≡ false → g q ≡ update bytes_eq f bs (Some k) q → g q ≡ option_or (f q) (cond (bytes_eq q bs) (Some k) None)
+pub set_new : (f g : List ℕ → Option ℕ) (bs q : List ℕ) (k : ℕ) → is_some (f bs) ≡ false → g q ≡ update bytes_eq f bs (Some k) q
+    → g q ≡ option_or (f q) (cond (bytes_eq q bs) (Some k) None)
 set_new f g bs q k fresh h =
     let e = nat_list_eq_equiv.symm bs q in
     h ∙ rw e (mix_new (bytes_eq q bs) (f q) k (λ t. ap f ((bytes_decides q bs).0 t) ∙ none_is (f bs) fresh))
 
-pub set_old : (f : List ℕ → Option ℕ) (bs q : List ℕ) (k : ℕ) → is_some (f bs) ≡ true → f q ≡ option_or (f q) (cond (bytes_eq q bs) (Some k) None)
+pub set_old : (f : List ℕ → Option ℕ) (bs q : List ℕ) (k : ℕ) → is_some (f bs) ≡ true
+    → f q ≡ option_or (f q) (cond (bytes_eq q bs) (Some k) None)
 set_old f bs q k known = mix_old (bytes_eq q bs) (f q) k (λ t. ap (λ (b : List ℕ). is_some (f b)) ((bytes_decides q bs).0 t) ∙ known)
 
 number_case : (c : Bool) (n k : ℕ) (x y : Option ℕ) (d : Option ℕ) → x ≡ option_or y d → cond c (Some n) x ≡ option_or (cond c (Some n) y) d
 number_case true n k x y d h = refl
 number_case false n k x y d h = h
 
-pub number_more : (n k : ℕ) (ps : List (List ℕ)) (p q : List ℕ) → k ≡ n + length ps → number_from n (ps ++ p ∷ []) q ≡ option_or (number_from n ps q) (cond (bytes_eq q p) (Some k) None)
+pub number_more : (n k : ℕ) (ps : List (List ℕ)) (p q : List ℕ) → k ≡ n + length ps
+    → number_from n (ps ++ p ∷ []) q ≡ option_or (number_from n ps q) (cond (bytes_eq q p) (Some k) None)
 number_more n k [] p q e = let f : n ≡ k = omega (arith, e) in rw f refl
 number_more n k (r ∷ ps) p q e = number_case (bytes_eq q r) n k _ _ _ (number_more (n + 1) k ps p q (omega (arith, e)))
 
@@ -86,7 +89,8 @@ number_at n zero (p ∷ ps) q m is e = sym ((bytes_decides q p).0 (is_first (byt
 number_at n (suc k) (p ∷ ps) q m is e = number_at (n + 1) k ps q m (is_later (bytes_eq q p) n k m _ is e) (omega arith)
 
 -- two names with one number are the same
-pub number_same : (names : List (List ℕ)) (p q : List ℕ) (k : ℕ) → number_from 0 names p ≡ Some k → number_from 0 names q ≡ Some k → bytes_eq p q ≡ true
+pub number_same : (names : List (List ℕ)) (p q : List ℕ) (k : ℕ) → number_from 0 names p ≡ Some k → number_from 0 names q ≡ Some k
+    → bytes_eq p q ≡ true
 number_same names p q k is_p is_q =
     (bytes_decides p q).1 (sym (number_at 0 k names p k is_p (omega arith)) ∙ number_at 0 k names q k is_q (omega arith))
 

@@ -1,6 +1,7 @@
 -- What the items of rows keep, where each row is in its ranges and its names are known.
 use Rattle.std.proofs.Common.{◌≡◌, ◌≢◌, ◌∙◌, ℕ, ◌≤◌, true, not, nat_le, nat_abs, ℤ, pos, negsuc, int_le, Option, Some, None, List, [], ◌∷◌, length, unwrap_or, refl, sym, ap, subst}
 use Rattle.std.proofs.lemmas.Bool.{false≢true, leb-true, and_parts}
+use Rattle.std.proofs.lemmas.Option.{same_Some}
 use Rattle.std.specs.List.{AllByRecursion}
 use Rattle.std.specs.Str.{bytes_eq}
 use Rattle.week_book.specs.declared.rows.Row.{Row}
@@ -22,7 +23,8 @@ pub record IsSound (places drivers : List (List ℕ)) (r : Row) : Type 0 where
   pub fits : keeps_ranges r ≡ true
   pub known : unknown_of places drivers r ≡ None
 
-pub sound : (places drivers : List (List ℕ)) (rows : List Row) → each_row keeps_ranges rows ≡ true → first_of (unknown_of places drivers) rows ≡ None → AllByRecursion (IsSound places drivers) rows
+pub sound : (places drivers : List (List ℕ)) (rows : List Row) → each_row keeps_ranges rows ≡ true
+    → first_of (unknown_of places drivers) rows ≡ None → AllByRecursion (IsSound places drivers) rows
 sound places drivers [] fits none = tt
 sound places drivers (r ∷ rs) fits none =
     let here = and_parts (keeps_ranges r) _ fits in
@@ -30,10 +32,12 @@ sound places drivers (r ∷ rs) fits none =
     (record { fits = here.0; known = known.0 }, sound places drivers rs here.1 known.1)
 
 pub within_is : (first last n : ℕ) → is_within first last n ≡ true → (first ≤ n) × (n ≤ last)
-within_is first last n fits = let parts = and_parts (nat_le first n) (nat_le n last) fits in (leb-true first n parts.0, leb-true n last parts.1)
+within_is first last n fits =
+    let parts = and_parts (nat_le first n) (nat_le n last) fits in (leb-true first n parts.0, leb-true n last parts.1)
 
 -- a window that is open in the week
-window_is : (opens closes : ℤ) → is_week_minute opens ≡ true → is_close_of opens closes ≡ true → (nat_abs opens ≤ nat_abs closes) × (nat_abs closes ≤ 10079)
+window_is : (opens closes : ℤ) → is_week_minute opens ≡ true → is_close_of opens closes ≡ true
+    → (nat_abs opens ≤ nat_abs closes) × (nat_abs closes ≤ 10079)
 window_is (pos a) (pos b) open_fits close_fits =
     let parts = and_parts (is_week_minute (pos b)) (int_le (pos a) (pos b)) close_fits in
     (leb-true a b parts.1, leb-true b 10079 (and_parts (int_le (pos 0) (pos b)) (int_le (pos b) (pos 10079)) parts.0).1)
@@ -41,19 +45,22 @@ window_is (pos a) (negsuc b) open_fits close_fits = absurd (false≢true close_f
 window_is (negsuc a) closes open_fits close_fits = absurd (false≢true open_fits)
 
 -- a name that is known has its number
-pub known_number : (names : List (List ℕ)) (n field : ℕ) (name : List ℕ) → unknown_name names n field name ≡ None → number_of names name ≡ Some (numbered names name)
+pub known_number : (names : List (List ℕ)) (n field : ℕ) (name : List ℕ) → unknown_name names n field name ≡ None
+    → number_of names name ≡ Some (numbered names name)
 known_number names n field name none = by_number (number_of names name) refl
   where
     by_number : (o : Option ℕ) → number_of names name ≡ o → number_of names name ≡ Some (numbered names name)
     by_number None e = let h = rw e at none in absurd cc
     by_number (Some k) e = e ∙ ap (λ (o : Option ℕ). Some (unwrap_or o 0)) (sym e)
 
-apart_numbers : (names : List (List ℕ)) (p q : List ℕ) (a b : ℕ) → number_of names p ≡ Some a → number_of names q ≡ Some b → not (bytes_eq p q) ≡ true → a ≢ b
+apart_numbers : (names : List (List ℕ)) (p q : List ℕ) (a b : ℕ) → number_of names p ≡ Some a → number_of names q ≡ Some b
+    → not (bytes_eq p q) ≡ true → a ≢ b
 apart_numbers names p q a b is_a is_b other same =
     let alike : bytes_eq p q ≡ true = number_same names p q a is_a (is_b ∙ ap Some (sym same)) in
     false≢true (ap not (sym alike) ∙ other)
 
-pub leg_is : (places drivers : List (List ℕ)) (r : Row) (x : Leg) → IsSound places drivers r → leg_in places r ≡ Some x → IsLeg (length places) x
+pub leg_is : (places drivers : List (List ℕ)) (r : Row) (x : Leg) → IsSound places drivers r → leg_in places r ≡ Some x
+    → IsLeg (length places) x
 leg_is places drivers (row.Leg n from to minutes cents) x good is =
     let names = neither (unknown_name places n 2 from) (unknown_name places n 3 to) good.known in
     let known_from = known_number places n 2 from names.0 in
@@ -62,8 +69,7 @@ leg_is places drivers (row.Leg n from to minutes cents) x good is =
     let second = and_parts (is_other_name from to) _ first.1 in
     let third = and_parts (is_within 1 270 minutes) _ second.1 in
     let fourth = and_parts (nat_le cents 1000000) true third.1 in
-    let same : record { from = numbered places from; to = numbered places to; minutes = minutes; cents = cents } ≡ x = cc in
-    subst (IsLeg (length places)) same (record {
+    subst (IsLeg (length places)) (same_Some _ x is) (record {
       from = number_in places from _ known_from;
       to = number_in places to _ known_to;
       apart = apart_numbers places from to _ _ known_from known_to (and_parts (is_name to) _ second.0).1;
@@ -81,15 +87,16 @@ driver_is places drivers (row.Driver n name capacity fee) x good is =
     let first = and_parts (is_name name) _ good.fits in
     let second = and_parts (is_within 1 100000 capacity) _ first.1 in
     let third = and_parts (nat_le fee 10000000) true second.1 in
-    let same : record { name = name; capacity = capacity; fee = fee } ≡ x = cc in
-    subst IsNamedDriver same (record { capacity = within_is 1 100000 capacity second.0; fee = leb-true fee 10000000 third.0 }, first.0)
+    subst IsNamedDriver (same_Some _ x is)
+    (record { capacity = within_is 1 100000 capacity second.0; fee = leb-true fee 10000000 third.0 }, first.0)
 driver_is places drivers _ x good is = absurd cc
 
 -- an order in its ranges, with a name
 abbrev pub IsNamedOrder : ℕ → Order → Type 0
 IsNamedOrder places o = IsOrder places o × (is_name o.name ≡ true)
 
-pub order_is : (places drivers : List (List ℕ)) (r : Row) (x : Order) → IsSound places drivers r → order_in places r ≡ Some x → IsNamedOrder (length places) x
+pub order_is : (places drivers : List (List ℕ)) (r : Row) (x : Order) → IsSound places drivers r → order_in places r ≡ Some x
+    → IsNamedOrder (length places) x
 order_is places drivers (row.Order n name place opens closes service kg price) x good is =
     let known = known_number places n 3 place good.known in
     let first = and_parts (is_name name) _ good.fits in
@@ -99,8 +106,7 @@ order_is places drivers (row.Order n name place opens closes service kg price) x
     let fifth = and_parts (is_within 1 360 service) _ fourth.1 in
     let sixth = and_parts (nat_le kg 100000) _ fifth.1 in
     let seventh = and_parts (nat_le price 100000000) true sixth.1 in
-    let same : record { name = name; place = numbered places place; opens = nat_abs opens; closes = nat_abs closes; service = service; kg = kg; price = price } ≡ x = cc in
-    subst (IsNamedOrder (length places)) same (
+    subst (IsNamedOrder (length places)) (same_Some _ x is) (
       record {
         place = number_in places place _ known;
         window = window_is opens closes third.0 fourth.0;
@@ -113,6 +119,5 @@ order_is places drivers (row.Order n name place opens closes service kg price) x
 order_is places drivers _ x good is = absurd cc
 
 pub place_is : (places drivers : List (List ℕ)) (r : Row) (x : List ℕ) → IsSound places drivers r → place_in r ≡ Some x → is_name x ≡ true
-place_is places drivers (row.Place n name) x good is =
-    let same : name ≡ x = cc in ap is_name (sym same) ∙ (and_parts (is_name name) true good.fits).0
+place_is places drivers (row.Place n name) x good is = ap is_name (sym (same_Some name x is)) ∙ (and_parts (is_name name) true good.fits).0
 place_is places drivers _ x good is = absurd cc

@@ -6,7 +6,8 @@ use Rattle.week_book.specs.Keys.{keyed_of, repeat_after, double_fault}
 use Rattle.week_book.proofs.Doubles.{double_is}
 use Rattle.week_book.proofs.keys.check_doubles.Goals as goal
 
-found : (rows : List Row) (keys seen : List Keyed) (first row : Option ℕ) → keys ≡ filter_map keyed_of rows → seen ≡ keys → first ≡ repeat_after [] seen → first ≡ row
+found : (rows : List Row) (keys seen : List Keyed) (first row : Option ℕ) → keys ≡ filter_map keyed_of rows → seen ≡ keys
+    → first ≡ repeat_after [] seen → first ≡ row
     → double_fault rows ≡ option_map Double row
 found rows keys seen first row all same is was =
     double_is [] rows ∙ ap (λ (ks : List Keyed). option_map Double (repeat_after [] ks)) (sym all ∙ sym same) ∙ ap (option_map Double) (sym is ∙ was)
