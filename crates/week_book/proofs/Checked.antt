@@ -82,7 +82,16 @@ made_is rows (row.Week n monday load night grid ∷ rs) week none fits first is 
     let in_grid = and_parts (is_grid grid) true in_night.1 in
     let drivers = all_items _ driver_in IsNamedDriver (driver_is places names) rows all in
     let order_list = all_items _ (order_in places) (IsNamedOrder (length places)) (order_is places names) rows all in
-    let same : record { monday = monday; load = load; night = night; grid = grid; places = places; legs = legs; drivers = drivers_of rows; orders = orders } ≡ week = cc in
+    let same : record {
+      monday = monday;
+      load = load;
+      night = night;
+      grid = grid;
+      places = places;
+      legs = legs;
+      drivers = drivers_of rows;
+      orders = orders;
+    } ≡ week = cc in
     subst IsWeek same (record {
       load = within_is 1 240 load in_load.0;
       night = leb-true night 1000000 in_night.0;
