@@ -1,6 +1,7 @@
 -- The week of a text without faults is a checked one.
-use Rattle.std.proofs.Common.{◌≡◌, ℕ, ◌≤◌, Bool, true, false, ◌||◌, ◌==◌, nat_le, Option, Some, None, Result, Ok, Err, IfOk, List, [], ◌∷◌, length, map, filter_map, All, refl, subst, inl, inr, ◌⊎◌, arith}
+use Rattle.std.proofs.Common.{◌≡◌, ℕ, ◌≤◌, Bool, true, false, ◌||◌, ◌==◌, nat_le, Option, Some, None, Result, Ok, Err, IfOk, List, [], ◌∷◌, length, map, filter_map, All, refl, inl, inr, ◌⊎◌, arith}
 use Rattle.std.proofs.lemmas.Bool.{false≢true, leb-true, eqb-true, and_parts}
+use Rattle.std.proofs.lemmas.Result.{IfOk-at_ok}
 use Rattle.std.proofs.lemmas.List.Elements.{All-weaker, All-map}
 use Rattle.minute_line.specs.Answers.{Gives}
 use Rattle.std.specs.List.{IsDistinct, cons_option, list_any}
@@ -24,7 +25,7 @@ use Rattle.week_book.proofs.Apart.{apart}
 use Rattle.week_book.proofs.Items.{all_items, distinct_items, distinct_names, distinct_parts}
 use Rattle.week_book.proofs.Faultless.{IsFaultless, faultless, limited, passed, is_place, kept}
 use Rattle.week_book.proofs.Sound.{IsNamedDriver, IsNamedOrder, sound, within_is, leg_is, driver_is, order_is, place_is}
-use Rattle.week_book.proofs.ItemKeys.{place_key, driver_key, order_key, leg_links}
+use Rattle.week_book.proofs.ItemKeys.{place_key, driver_key, order_key, Ends, leg_ends, leg_links}
 
 is_leg : (places : List (List ℕ)) (r : Row) → is_some (leg_in places r) ≡ is_of Legs r
 is_leg places (row.Leg n from to minutes cents) = refl
@@ -66,10 +67,10 @@ are_names name items formed distinct = record {
 }
 
 -- the week of rows without faults is a checked one
-made_is : (rows others : List Row) (week : Week) → IsFaultless rows → each_row keeps_ranges rows ≡ true
-    → each_row keeps_ranges others ≡ true → week_made rows others ≡ Ok week → IsWeek week
-made_is rows [] week none fits first is = absurd cc
-made_is rows (row.Week n monday load night grid ∷ rs) week none fits first is =
+made_is : (rows others : List Row) → IsFaultless rows → each_row keeps_ranges rows ≡ true → each_row keeps_ranges others ≡ true
+    → IfOk (week_made rows others) IsWeek
+made_is rows [] none fits first = tt
+made_is rows (row.Week n monday load night grid ∷ rs) none fits first =
     let places = places_of rows in
     let legs = filter_map (leg_in places) rows in
     let orders = filter_map (order_in places) rows in
@@ -82,17 +83,7 @@ made_is rows (row.Week n monday load night grid ∷ rs) week none fits first is 
     let in_grid = and_parts (is_grid grid) true in_night.1 in
     let drivers = all_items _ driver_in IsNamedDriver (driver_is places names) rows all in
     let order_list = all_items _ (order_in places) (IsNamedOrder (length places)) (order_is places names) rows all in
-    let same : record {
-      monday = monday;
-      load = load;
-      night = night;
-      grid = grid;
-      places = places;
-      legs = legs;
-      drivers = drivers_of rows;
-      orders = orders;
-    } ≡ week = cc in
-    subst IsWeek same (record {
+    record {
       load = within_is 1 240 load in_load.0;
       night = leb-true night 1000000 in_night.0;
       grid = grid_is grid in_grid.0;
@@ -115,9 +106,9 @@ made_is rows (row.Week n monday load night grid ∷ rs) week none fits first is 
       order_names = are_names (λ (o : Order). o.name) orders
           (All-weaker (IsNamedOrder (length places)) _ (λ o both. both.1) orders order_list)
           (distinct_names _ (order_in places) 6 (λ (o : Order). o.name) (order_key places) rows all far);
-      ends = distinct_items _ (leg_in places) same_ends (leg_links places names) rows all far;
-    })
-made_is rows (_ ∷ rs) week none fits first is = absurd cc
+      ends = distinct_items _ (leg_in places) (Ends places) same_ends (leg_ends places names) (leg_links places) rows all far;
+    }
+made_is rows (_ ∷ rs) none fits first = tt
 
 -- a week that was made of rows without faults
 pub made_checked : (r : Result Week WeekError) (rows : List Row) → fault_of rows ≡ None
@@ -125,5 +116,5 @@ pub made_checked : (r : Result Week WeekError) (rows : List Row) → fault_of ro
 made_checked (Ok week) rows none gives =
     let clean = faultless rows none in
     let fits = kept [] rows clean.ranges in
-    made_is rows rows week clean fits fits gives
+    IfOk-at_ok IsWeek gives (made_is rows rows clean fits fits)
 made_checked (Err e) rows none gives = tt

@@ -1,12 +1,11 @@
 -- What the items of rows keep, where each row is in its ranges and its names are known.
-use Rattle.std.proofs.Common.{◌≡◌, ◌≢◌, ◌∙◌, ℕ, ◌≤◌, true, not, nat_le, nat_abs, ℤ, pos, negsuc, int_le, Option, Some, None, List, [], ◌∷◌, length, unwrap_or, refl, sym, ap, subst}
+use Rattle.std.proofs.Common.{◌≡◌, ◌≢◌, ◌∙◌, ℕ, ◌≤◌, true, not, nat_le, nat_abs, ℤ, pos, negsuc, int_le, Option, Some, None, List, [], ◌∷◌, length, unwrap_or, refl, sym, ap}
 use Rattle.std.proofs.lemmas.Bool.{false≢true, leb-true, and_parts}
-use Rattle.std.proofs.lemmas.Option.{same_Some}
 use Rattle.std.specs.List.{AllByRecursion}
+use Rattle.std.specs.Option.{IfSome}
 use Rattle.std.specs.Str.{bytes_eq}
 use Rattle.week_book.specs.declared.rows.Row.{Row}
 use Rattle.week_book.specs.declared.rows.Row.TheVariants as row
-use Rattle.week_book.specs.declared.weeks.Leg.{Leg}
 use Rattle.week_book.specs.declared.weeks.Order.{Order}
 use Rattle.week_book.specs.declared.weeks.Driver.{Driver}
 use Rattle.week_book.specs.Names.{is_name, number_of}
@@ -59,9 +58,8 @@ apart_numbers names p q a b is_a is_b other same =
     let alike : bytes_eq p q ≡ true = number_same names p q a is_a (is_b ∙ ap Some (sym same)) in
     false≢true (ap not (sym alike) ∙ other)
 
-pub leg_is : (places drivers : List (List ℕ)) (r : Row) (x : Leg) → IsSound places drivers r → leg_in places r ≡ Some x
-    → IsLeg (length places) x
-leg_is places drivers (row.Leg n from to minutes cents) x good is =
+pub leg_is : (places drivers : List (List ℕ)) (r : Row) → IsSound places drivers r → IfSome (leg_in places r) (IsLeg (length places))
+leg_is places drivers (row.Leg n from to minutes cents) good =
     let names = neither (unknown_name places n 2 from) (unknown_name places n 3 to) good.known in
     let known_from = known_number places n 2 from names.0 in
     let known_to = known_number places n 3 to names.1 in
@@ -69,35 +67,34 @@ leg_is places drivers (row.Leg n from to minutes cents) x good is =
     let second = and_parts (is_other_name from to) _ first.1 in
     let third = and_parts (is_within 1 270 minutes) _ second.1 in
     let fourth = and_parts (nat_le cents 1000000) true third.1 in
-    subst (IsLeg (length places)) (same_Some _ x is) (record {
+    record {
       from = number_in places from _ known_from;
       to = number_in places to _ known_to;
       apart = apart_numbers places from to _ _ known_from known_to (and_parts (is_name to) _ second.0).1;
       minutes = within_is 1 270 minutes third.0;
       cents = leb-true cents 1000000 fourth.0;
-    })
-leg_is places drivers _ x good is = absurd cc
+    }
+leg_is places drivers _ good = tt
 
 -- a driver in its ranges, with a name
 abbrev pub IsNamedDriver : Driver → Type 0
 IsNamedDriver d = IsDriver d × (is_name d.name ≡ true)
 
-pub driver_is : (places drivers : List (List ℕ)) (r : Row) (x : Driver) → IsSound places drivers r → driver_in r ≡ Some x → IsNamedDriver x
-driver_is places drivers (row.Driver n name capacity fee) x good is =
+pub driver_is : (places drivers : List (List ℕ)) (r : Row) → IsSound places drivers r → IfSome (driver_in r) IsNamedDriver
+driver_is places drivers (row.Driver n name capacity fee) good =
     let first = and_parts (is_name name) _ good.fits in
     let second = and_parts (is_within 1 100000 capacity) _ first.1 in
     let third = and_parts (nat_le fee 10000000) true second.1 in
-    subst IsNamedDriver (same_Some _ x is)
     (record { capacity = within_is 1 100000 capacity second.0; fee = leb-true fee 10000000 third.0 }, first.0)
-driver_is places drivers _ x good is = absurd cc
+driver_is places drivers _ good = tt
 
 -- an order in its ranges, with a name
 abbrev pub IsNamedOrder : ℕ → Order → Type 0
 IsNamedOrder places o = IsOrder places o × (is_name o.name ≡ true)
 
-pub order_is : (places drivers : List (List ℕ)) (r : Row) (x : Order) → IsSound places drivers r → order_in places r ≡ Some x
-    → IsNamedOrder (length places) x
-order_is places drivers (row.Order n name place opens closes service kg price) x good is =
+pub order_is : (places drivers : List (List ℕ)) (r : Row) → IsSound places drivers r
+    → IfSome (order_in places r) (IsNamedOrder (length places))
+order_is places drivers (row.Order n name place opens closes service kg price) good =
     let known = known_number places n 3 place good.known in
     let first = and_parts (is_name name) _ good.fits in
     let second = and_parts (is_name place) _ first.1 in
@@ -105,8 +102,7 @@ order_is places drivers (row.Order n name place opens closes service kg price) x
     let fourth = and_parts (is_close_of opens closes) _ third.1 in
     let fifth = and_parts (is_within 1 360 service) _ fourth.1 in
     let sixth = and_parts (nat_le kg 100000) _ fifth.1 in
-    let seventh = and_parts (nat_le price 100000000) true sixth.1 in
-    subst (IsNamedOrder (length places)) (same_Some _ x is) (
+    let seventh = and_parts (nat_le price 100000000) true sixth.1 in (
       record {
         place = number_in places place _ known;
         window = window_is opens closes third.0 fourth.0;
@@ -116,8 +112,8 @@ order_is places drivers (row.Order n name place opens closes service kg price) x
       },
       first.0,
     )
-order_is places drivers _ x good is = absurd cc
+order_is places drivers _ good = tt
 
-pub place_is : (places drivers : List (List ℕ)) (r : Row) (x : List ℕ) → IsSound places drivers r → place_in r ≡ Some x → is_name x ≡ true
-place_is places drivers (row.Place n name) x good is = ap is_name (sym (same_Some name x is)) ∙ (and_parts (is_name name) true good.fits).0
-place_is places drivers _ x good is = absurd cc
+pub place_is : (places drivers : List (List ℕ)) (r : Row) → IsSound places drivers r → IfSome (place_in r) (λ name. is_name name ≡ true)
+place_is places drivers (row.Place n name) good = (and_parts (is_name name) true good.fits).0
+place_is places drivers _ good = tt
