@@ -1,5 +1,5 @@
 -- Which key the row of an item has: its kind, and the item's name or ends.
-use Rattle.std.proofs.Common.{◌≡◌, ◌∙◌, ℕ, ◌==◌, Some, List, ◌∷◌, ◌++◌, refl, sym, ap}
+use Rattle.std.proofs.Common.{◌≡◌, ◌∙◌, ℕ, true, ◌==◌, Some, List, ◌∷◌, ◌++◌, refl, ap}
 use Rattle.std.proofs.lemmas.Bool.{eqb-true, and_parts}
 use Rattle.std.specs.Option.{IfSome}
 use Rattle.std.specs.Cmp.Lexicographic.{bytes_decides}
@@ -47,16 +47,15 @@ leg_ends places drivers (row.Leg n from to minutes cents) good =
     }
 leg_ends places drivers _ good = tt
 
+-- two names with one number are one name
+one_name : (names : List (List ℕ)) (p q : List ℕ) (a b : ℕ) → number_of names p ≡ Some a → number_of names q ≡ Some b → (a == b) ≡ true → p ≡ q
+one_name names p q a b is_a is_b same = (bytes_decides p q).0 (number_same names p q b (is_a ∙ ap Some (eqb-true a b same)) is_b)
+
 -- two legs with the same ends come from rows with a common key
 pub leg_links : (places : List (List ℕ)) → Links (Ends places) same_ends
 leg_links places r s x y a b same =
     let parts = and_parts (x.from == y.from) (x.to == y.to) same in
-    let from = (bytes_decides a.from b.from).0
-    (number_same places a.from b.from y.from (a.from_is ∙ ap Some (eqb-true x.from y.from parts.0)) b.from_is) in
-    let to = (bytes_decides a.to b.to).0
-    (number_same places a.to b.to y.to (a.to_is ∙ ap Some (eqb-true x.to y.to parts.1)) b.to_is) in (
-      2 ∷ (a.from ++ (44 ∷ a.to)),
-      a.key,
-      b.key
-          ∙ sym (ap (λ (p : List ℕ). Some (2 ∷ (p ++ (44 ∷ a.to)))) from ∙ ap (λ (q : List ℕ). Some (2 ∷ (b.from ++ (44 ∷ q)))) to),
-    )
+    let from = one_name places a.from b.from x.from y.from a.from_is b.from_is parts.0 in
+    let to = one_name places a.to b.to x.to y.to a.to_is b.to_is parts.1 in
+    let key = a.key ∙ ap (λ (p : List ℕ). Some (2 ∷ (p ++ (44 ∷ a.to)))) from ∙ ap (λ (q : List ℕ). Some (2 ∷ (b.from ++ (44 ∷ q)))) to in
+    (2 ∷ (b.from ++ (44 ∷ b.to)), key, b.key)

@@ -32,7 +32,8 @@ each_both P Q (r ∷ rs) p q = ((p.0, q.0), each_both P Q rs p.1 q.1)
 
 -- two items that are the same come from rows with a common key; what an item has of its row shows it
 abbrev pub Links : {X : Type 0} (Of : Row → X → Type 0) (same : X → X → Bool) → Type 0
-Links {X} Of same = (r s : Row) (x y : X) → Of r x → Of s y → same x y ≡ true → (key : List ℕ) × (key_of r ≡ Some key) × (key_of s ≡ Some key)
+Links {X} Of same = (r s : Row) (x y : X) → Of r x → Of s y → same x y ≡ true
+    → (key : List ℕ) × (key_of r ≡ Some key) × (key_of s ≡ Some key)
 
 -- an item is none of the items of rows that its own row is apart from
 item_apart : {X : Type 0} (P : Row → Type 0) (h : Row → Option X) (Of : Row → X → Type 0) (same : X → X → Bool)
@@ -43,7 +44,8 @@ item_apart P h Of same own links r x of_r rows all far =
     each_item (λ s. P s × IsApart r s) h (λ y. same x y ≡ false) differ rows (each_both P (IsApart r) rows all far)
   where
     differ : (s : Row) → P s × IsApart r s → IfSome (h s) (λ y. same x y ≡ false)
-    differ s is = IfSome_then (h s) (own s is.0) (λ y of_s. false_from_ne_true (same x y) (λ e. let k = links r s x y of_r of_s e in is.1 k.0 k.1 k.2))
+    differ s is = IfSome_then (h s) (own s is.0)
+        (λ y of_s. false_from_ne_true (same x y) (λ e. let k = links r s x y of_r of_s e in is.1 k.0 k.1 k.2))
 
 distinct_case : {X : Type 0} (same : X → X → Bool) (o : Option X) (ys : List X)
     → IfSome o (λ x. AllByRecursion (λ y. same x y ≡ false) ys) → IsDistinct same ys → IsDistinct same (cons_option o ys)
@@ -66,7 +68,8 @@ distinct_items P h Of same own links (r ∷ rs) all far =
 pub distinct_names : {X : Type 0} (P : Row → Type 0) (h : Row → Option X) (kind : ℕ) (name : X → List ℕ)
     → ((r : Row) → IfSome (h r) (λ x. key_of r ≡ Some (kind ∷ name x)))
     → (rows : List Row) → AllByRecursion P rows → AreApart rows → IsDistinct (λ x y. bytes_eq (name x) (name y)) (filter_map h rows)
-distinct_names {X} P h kind name key = distinct_items P h (λ r x. key_of r ≡ Some (kind ∷ name x)) (λ x y. bytes_eq (name x) (name y)) (λ r is. key r) links
+distinct_names {X} P h kind name key =
+    distinct_items P h (λ r x. key_of r ≡ Some (kind ∷ name x)) (λ x y. bytes_eq (name x) (name y)) (λ r is. key r) links
   where
     links : Links (λ (r : Row) (x : X). key_of r ≡ Some (kind ∷ name x)) (λ (x y : X). bytes_eq (name x) (name y))
     links r s x y of_r of_s same =
