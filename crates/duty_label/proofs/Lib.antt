@@ -1,3 +1,4 @@
 pub mod Brought
 pub mod Values
 pub mod Growing
+pub mod Naming

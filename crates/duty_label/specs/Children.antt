@@ -1,21 +1,22 @@
 -- What one step more makes of a driver's label.
-use Rattle.std.specs.Prelude.{◌≡◌, ℕ, ℤ, pos, ◌-ℤ◌, ◌≤ℤ◌, Bool, false, ◌&&◌, nat_lt, if◌then◌else◌, ◌∷◌, length, Option, Some, None, option_map, Result, MatchResult}
+use Rattle.std.specs.Prelude.{◌≡◌, ℕ, ℤ, pos, ◌-ℤ◌, ◌≤ℤ◌, Bool, true, false, ◌&&◌, nat_lt, if◌then◌else◌, ◌∷◌, length, Option, Some, None, option_map, Result, Err, MatchResult}
 use Rattle.hours_rules.specs.Rules.{fault}
 use Rattle.week_book.specs.declared.weeks.Week.{Week}
 use Rattle.duty_plan.specs.declared.duties.Act.{Act}
 use Rattle.duty_plan.specs.declared.duties.Act.TheVariants.{Leg, Serve, Load}
 use Rattle.duty_plan.specs.declared.duties.Step.{Step}
+use Rattle.duty_plan.specs.declared.duties.Duty.{Duty}
 use Rattle.duty_plan.specs.declared.faults.DutyFault.{DutyFault}
 use Rattle.duty_plan.specs.declared.faults.DutyFault.TheVariants.{Rule}
 use Rattle.duty_plan.specs.declared.plans.Case.{Case}
 use Rattle.duty_plan.specs.declared.deciding.Pairs.{Pairs}
 use Rattle.duty_plan.specs.declared.pricing.Prices.{Prices}
 use Rattle.duty_plan.specs.declared.labels.Label.{Label}
-use Rattle.duty_plan.specs.Fronts.{Front, line_after}
-use Rattle.duty_plan.specs.Duties.{IsLawfulFront, past_at, open_off_at, capacity_at}
+use Rattle.duty_plan.specs.Fronts.{Front, line_after, place_after}
+use Rattle.duty_plan.specs.Duties.{IsLawfulFront, cost_after, front_of, past_at, open_off_at, capacity_at}
 use Rattle.duty_plan.specs.Values.{is_barred, pair_at}
 use Rattle.duty_plan.specs.Labels.{IsLabelOf}
-use Rattle.duty_plan.specs.Verdicts.{earlier_or, first_failed, numbered, tests_of_step}
+use Rattle.duty_plan.specs.Verdicts.{duty_verdict, earlier_or, first_failed, numbered, office_fault, tests_of_step, verdict_after}
 use Rattle.duty_label.specs.declared.refusals.NoChild.{NoChild}
 use Rattle.duty_label.specs.declared.refusals.NoChild.TheVariants.{Barred, Fault}
 
@@ -41,6 +42,23 @@ abbrev pub fault_of_step : Case → ℕ → Front → Step → Option DutyFault
 fault_of_step case driver before step =
     earlier_or (option_map (numbered 0) (first_failed (tests_of_step case.week (open_off_at case driver) (capacity_at case driver) step before)))
     (option_map (λ broken. Rule broken) (fault (past_at case driver) (line_after case.week (step ∷ before))))
+
+-- what the judge of duties finds of a front, but for the way home
+abbrev pub verdict_on : Case → ℕ → Front → Result ℕ DutyFault
+verdict_on case driver front =
+    verdict_after (office_fault case.week (open_off_at case driver) (capacity_at case driver) front) true
+    (fault (past_at case driver) (line_after case.week front)) (cost_after case driver front)
+
+-- the fault that a step brings is the one that the judge names, with the step's own number
+abbrev pub NamedAsJudged : Type 0
+NamedAsJudged = (case : Case) (driver : ℕ) (before : Front) (step : Step) (found : DutyFault) → IsLawfulFront case driver before →
+    fault_of_step case driver before step ≡ Some found → verdict_on case driver (step ∷ before) ≡ Err (numbered (length before) found)
+
+-- so it is of a duty that ends with the step at the depot
+abbrev pub NamedForDuties : Type 0
+NamedForDuties = (case : Case) (driver : ℕ) (duty : Duty) (before : Front) (step : Step) (found : DutyFault) →
+    front_of duty ≡ step ∷ before → place_after (step ∷ before) ≡ 0 → IsLawfulFront case driver before →
+    fault_of_step case driver before step ≡ Some found → duty_verdict case driver duty ≡ Err (numbered (length before) found)
 
 -- why the driver may not go on by a step after a lawful front: the act serves an order that is Barred for the driver, or
 -- else the step brings a fault

@@ -3,6 +3,7 @@
 #![tactic(auto)]
 
 mod children;
+mod laws;
 mod prices;
 mod refusals;
 #[cfg(test)]
@@ -10,4 +11,5 @@ mod tests;
 
 pub use children::{child, first};
 pub use duty_plan::Label;
+pub use laws::named_as_judged;
 pub use refusals::NoChild;
