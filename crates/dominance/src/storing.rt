@@ -29,9 +29,9 @@ impl Fronts {
         self.by_place[label.place as usize].push(label)
     }
 
+    // Not inlined: only where the label is read from memory does LLVM compare several of its fields at a time.
     /// Whether a stored label after at least one act betters a label. A label at a place that has no list is bettered by
     /// none. The time grows with the labels at its place.
-    // Not inlined: only where the label is read from memory does LLVM compare several of its fields at a time.
     #[inline(never)]
     pub fn bettered(&self, label: &Label) -> bool
         ensures { result ≡ true ↔ IsBettered self.now label.now }

@@ -172,18 +172,145 @@ fn label_of(desk: &Desk, steps: &[Step]) -> Result<Label, NoChild>
     Ok(label)
 }
 
-/// The clock at a minute of the day after the load, with so many Drive and working minutes since then.
-fn driven(loaded: Clock, at: u32, drive: u32, work: u32) -> Clock {
+/// No stay.
+const NONE: Stay = Stay {
+    ready: 0,
+    off: 0,
+    kind: Kind::Plain,
+};
+
+/// The load after a weekly rest to minute 405, the leg to P, the service there, and the leg home.
+const LOAD: Step = Step {
+    stay: Stay {
+        ready: 0,
+        off: 405,
+        kind: Kind::Weekly,
+    },
+    act: Act::Load,
+};
+
+const OUT: Step = Step {
+    stay: NONE,
+    act: Act::Leg(1),
+};
+
+const SERVE: Step = Step {
+    stay: NONE,
+    act: Act::Serve(0),
+};
+
+const HOME: Step = Step {
+    stay: NONE,
+    act: Act::Leg(0),
+};
+
+/// The clock on Monday 00:00, in the open run of 2,880 minutes.
+const BEFORE: Clock = Clock {
+    at: 0,
+    off: 2880,
+    day_from: -2880,
+    rest_from: -2880,
+    period: 0,
+    drive_day: 0,
+    long_days: 0,
+    reduced: 0,
+    prev_weekly: 2700,
+    work_run: 0,
+    work_day: 0,
+    pause_day: 0,
+    drive_week: 0,
+    work_week: 0,
+    prev_drive: 0,
+    work_before: 0,
+    half: false,
+    split: false,
+};
+
+/// The clock at a minute of the day that began with a load at a minute, after a weekly rest, with so many Drive and working
+/// minutes since then.
+fn clock(from: i32, rest: u32, at: u32, drive: u32, work: u32) -> Clock {
     Clock {
         at,
+        off: 0,
+        day_from: from,
+        rest_from: from,
         period: drive,
         drive_day: drive,
-        drive_week: drive,
+        prev_weekly: rest,
         work_run: work,
         work_day: work,
+        drive_week: drive,
         work_week: work,
-        ..loaded
+        ..BEFORE
     }
+}
+
+/// Steps, and of their label the minute, the Drive and the working minutes since the load, the place, the orders as bits, the kg
+/// and the value.
+///
+/// By hand: the open run of 2,880 joins the stay's 405 Off minutes and ends as a weekly rest of 3,285 at minute 405, where the
+/// day and the time since the weekly rest begin. The load is Work from 405 to 420 and makes the fee due; each leg is 60 Drive
+/// minutes and 3,000 cents; the service is Work from 480 to 510, takes 12,000 kg and is paid 9,000. Nothing pauses.
+const TRIP: [(&[Step], u32, u32, u32, u32, u64, u32, i64); 4] = [
+    (&[LOAD], 420, 0, 15, 0, 0, 0, 2000),
+    (&[LOAD, OUT], 480, 60, 75, 1, 0, 0, 5000),
+    (&[LOAD, OUT, SERVE], 510, 60, 105, 1, 1, 12_000, -4000),
+    (
+        &[LOAD, OUT, SERVE, HOME],
+        570,
+        120,
+        165,
+        0,
+        1,
+        12_000,
+        -1000,
+    ),
+];
+
+#[test]
+fn a_trip_has_these_labels(rt: HostRuntime) {
+    let monday = read_monday("2026-03-02").expect(&rt, "a Monday");
+    let desk = prepared(rt.alloc(), monday, Pair::Free).expect(&rt, "memory");
+    for (steps, at, drive, work, place, served, used, value) in TRIP {
+        let expected = Label {
+            clock: clock(405, 3285, at, drive, work),
+            place,
+            served,
+            used,
+            loaded: true,
+            fee_paid: true,
+            value,
+        };
+        let found = label_of(&desk, steps);
+        assert!(rt; found == Ok(expected), "{found:?}");
+    }
+}
+
+// By hand: without a step nothing was loaded, and no fee is due; a weekly stay of no minute ends the open run at 2,880, and the
+// load is Work from 0 to 15.
+#[test]
+fn a_week_begins_with_these_labels(rt: HostRuntime) {
+    let monday = read_monday("2026-03-02").expect(&rt, "a Monday");
+    let desk = prepared(rt.alloc(), monday, Pair::Free).expect(&rt, "memory");
+    let empty = Label {
+        clock: BEFORE,
+        place: 0,
+        served: 0,
+        used: 0,
+        loaded: false,
+        fee_paid: false,
+        value: 0,
+    };
+    let early = Label {
+        clock: clock(0, 2880, 15, 0, 15),
+        loaded: true,
+        fee_paid: true,
+        value: 2000,
+        ..empty
+    };
+    let load = step(0, 0, Kind::Weekly, Act::Load);
+    assert!(rt; label_of(&desk, &[]) == Ok(empty), "no step");
+    assert!(rt; label_of(&desk, &[load]) == Ok(early), "a load at 0");
 }
 
 fn step(ready: u32, off: u32, kind: Kind, act: Act) -> Step {
@@ -198,159 +325,119 @@ fn next(act: Act) -> Step {
     step(0, 0, Kind::Plain, act)
 }
 
-// By hand: the open run of 2,880 joins the stay's 405 Off minutes and ends as a weekly rest of 3,285 at minute 405, where the
-// day and the time since the weekly rest begin. The load is Work from 405 to 420 and makes the fee due; each leg is 60 Drive
-// minutes and 3,000 cents; the service is Work from 480 to 510, takes 12,000 kg and is paid 9,000. Nothing pauses.
-#[test]
-fn a_trip_has_these_labels(rt: HostRuntime) {
-    let monday = read_monday("2026-03-02").expect(&rt, "a Monday");
-    let desk = prepared(rt.alloc(), monday, Pair::Free).expect(&rt, "memory");
-    let load = step(0, 405, Kind::Weekly, Act::Load);
-    let out = next(Act::Leg(1));
-    let serve = next(Act::Serve(0));
-    let home = next(Act::Leg(0));
-    let before = Clock {
-        at: 0,
-        off: 2880,
-        day_from: -2880,
-        rest_from: -2880,
-        period: 0,
-        drive_day: 0,
-        long_days: 0,
-        reduced: 0,
-        prev_weekly: 2700,
-        work_run: 0,
-        work_day: 0,
-        pause_day: 0,
-        drive_week: 0,
-        work_week: 0,
-        prev_drive: 0,
-        work_before: 0,
-        half: false,
-        split: false,
-    };
-    let loaded = Clock {
-        at: 420,
-        off: 0,
-        day_from: 405,
-        rest_from: 405,
-        prev_weekly: 3285,
-        work_run: 15,
-        work_day: 15,
-        work_week: 15,
-        ..before
-    };
-    // the open run alone is the weekly rest, and the load is Work from 0 to 15
-    let early = Clock {
-        at: 15,
-        day_from: 0,
-        rest_from: 0,
-        prev_weekly: 2880,
-        ..loaded
-    };
-    // the steps, the clock, the place, the orders as bits, the kg, a load act, a step, the value
-    let rows: [(&[Step], Clock, u32, u64, u32, bool, bool, i64); 6] = [
-        (&[], before, 0, 0, 0, false, false, 0),
-        (
-            &[step(0, 0, Kind::Weekly, Act::Load)],
-            early,
-            0,
-            0,
-            0,
-            true,
-            true,
-            2000,
-        ),
-        (&[load], loaded, 0, 0, 0, true, true, 2000),
-        (
-            &[load, out],
-            driven(loaded, 480, 60, 75),
-            1,
-            0,
-            0,
-            true,
-            true,
-            5000,
-        ),
-        (
-            &[load, out, serve],
-            driven(loaded, 510, 60, 105),
-            1,
-            1,
-            12_000,
-            true,
-            true,
-            -4000,
-        ),
-        (
-            &[load, out, serve, home],
-            driven(loaded, 570, 120, 165),
-            0,
-            1,
-            12_000,
-            true,
-            true,
-            -1000,
-        ),
-    ];
-    for (steps, clock, place, served, used, loaded, fee_paid, value) in rows {
-        let expected = Label {
-            clock,
-            place,
-            served,
-            used,
-            loaded,
-            fee_paid,
-            value,
-        };
-        let found = label_of(&desk, steps);
-        assert!(rt; found == Ok(expected), "{found:?}");
-    }
-}
+/// Steps, the last of which brings that fault.
+///
+/// By hand: six legs in a row have the 271st Drive minute at 660 + 30 = 690; a service at 480 + 241 = 721 is late by a minute.
+const FAULTS: [(&[Step], DutyFault); 10] = [
+    (
+        &[Step {
+            stay: NONE,
+            act: Act::Leg(2),
+        }],
+        DutyFault::Road(0),
+    ),
+    (
+        &[
+            LOAD,
+            Step {
+                stay: Stay {
+                    ready: 0,
+                    off: 16,
+                    kind: Kind::Plain,
+                },
+                act: Act::Leg(1),
+            },
+        ],
+        DutyFault::Stay(0),
+    ),
+    (
+        &[
+            LOAD,
+            OUT,
+            Step {
+                stay: Stay {
+                    ready: 0,
+                    off: 2700,
+                    kind: Kind::Weekly,
+                },
+                act: Act::Leg(0),
+            },
+        ],
+        DutyFault::Away(0),
+    ),
+    (
+        &[Step {
+            stay: Stay {
+                ready: 0,
+                off: 406,
+                kind: Kind::Weekly,
+            },
+            act: Act::Load,
+        }],
+        DutyFault::Grid(0),
+    ),
+    (
+        &[Step {
+            stay: Stay {
+                ready: 0,
+                off: 10_080,
+                kind: Kind::Weekly,
+            },
+            act: Act::Load,
+        }],
+        DutyFault::Late(0),
+    ),
+    (
+        &[
+            LOAD,
+            OUT,
+            Step {
+                stay: Stay {
+                    ready: 241,
+                    off: 0,
+                    kind: Kind::Plain,
+                },
+                act: Act::Serve(0),
+            },
+        ],
+        DutyFault::Window(0),
+    ),
+    (
+        &[
+            Step {
+                stay: Stay {
+                    ready: 0,
+                    off: 420,
+                    kind: Kind::Weekly,
+                },
+                act: Act::Leg(1),
+            },
+            SERVE,
+        ],
+        DutyFault::Load(0),
+    ),
+    (&[LOAD, OUT, SERVE, SERVE], DutyFault::Twice(0)),
+    (
+        &[Step {
+            stay: NONE,
+            act: Act::Serve(1),
+        }],
+        DutyFault::Road(0),
+    ),
+    (
+        &[LOAD, OUT, HOME, OUT, HOME, OUT],
+        DutyFault::Rule(Broken {
+            rule: Rule::H1,
+            minute: 690,
+        }),
+    ),
+];
 
-// By hand: six legs in a row have the 271st Drive minute at 660 + 30 = 690; a service at 480 + 241 = 721 is late by a minute.
 #[test]
 fn each_fault_has_a_step(rt: HostRuntime) {
     let monday = read_monday("2026-03-02").expect(&rt, "a Monday");
     let desk = prepared(rt.alloc(), monday, Pair::Free).expect(&rt, "memory");
-    let load = step(0, 405, Kind::Weekly, Act::Load);
-    let out = next(Act::Leg(1));
-    let serve = next(Act::Serve(0));
-    let home = next(Act::Leg(0));
-    let rows: [(&[Step], DutyFault); 10] = [
-        (&[next(Act::Leg(2))], DutyFault::Road(0)),
-        (
-            &[load, step(0, 16, Kind::Plain, Act::Leg(1))],
-            DutyFault::Stay(0),
-        ),
-        (
-            &[load, out, step(0, 2700, Kind::Weekly, Act::Leg(0))],
-            DutyFault::Away(0),
-        ),
-        (&[step(0, 406, Kind::Weekly, Act::Load)], DutyFault::Grid(0)),
-        (
-            &[step(0, 10_080, Kind::Weekly, Act::Load)],
-            DutyFault::Late(0),
-        ),
-        (
-            &[load, out, step(241, 0, Kind::Plain, Act::Serve(0))],
-            DutyFault::Window(0),
-        ),
-        (
-            &[step(0, 420, Kind::Weekly, Act::Leg(1)), serve],
-            DutyFault::Load(0),
-        ),
-        (&[load, out, serve, serve], DutyFault::Twice(0)),
-        (&[next(Act::Serve(1))], DutyFault::Road(0)),
-        (
-            &[load, out, home, out, home, out],
-            DutyFault::Rule(Broken {
-                rule: Rule::H1,
-                minute: 690,
-            }),
-        ),
-    ];
-    for (steps, fault) in rows {
+    for (steps, fault) in FAULTS {
         let found = label_of(&desk, steps);
         assert!(rt; found == Err(NoChild::Fault(fault)), "{fault:?}: {found:?}");
     }

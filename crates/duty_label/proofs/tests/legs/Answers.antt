@@ -1,4 +1,4 @@
-use Rattle.std.proofs.Common.{◌≡◌, ℕ, List, [], ◌∷◌, refl, rules}
+use Rattle.std.proofs.Common.{◌≡◌, [], ◌∷◌, refl, rules}
 use Rattle.week_book.specs.declared.weeks.Leg.{Leg}
 use Rattle.week_book.specs.Weeks.{IsLeg, same_ends}
 use Rattle.duty_plan.proofs.OneDriver.{all-two, distinct-two}

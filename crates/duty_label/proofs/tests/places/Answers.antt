@@ -1,4 +1,4 @@
-use Rattle.std.proofs.Common.{◌≡◌, ℕ, true, List, [], ◌∷◌, refl, rules}
+use Rattle.std.proofs.Common.{◌≡◌, true, [], ◌∷◌, refl, rules}
 use Rattle.std.specs.Str.{bytes_eq}
 use Rattle.week_book.specs.Names.{is_name}
 use Rattle.duty_plan.proofs.OneDriver.{all-two, distinct-two}
