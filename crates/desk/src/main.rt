@@ -9,25 +9,27 @@ mod running;
 mod tests;
 
 use desk_io::{StdSink, StdSource};
+use minute_line::Memory;
+use running::WANT_OF_MEMORY;
 pub use running::run_desk;
 use std::env;
 use std::process::ExitCode;
 
 /// The words after the program's name; none where the system does not give them as text.
-fn words(rt: &HostRuntime) -> Vec<String> {
+fn words(rt: &HostRuntime) -> Result<Vec<String>, Memory> {
     let mut words = Vec::new(rt.alloc());
     if let Ok(given) = env::args(rt) {
         for word in given.skip(1) {
-            if words.push(word).is_err() {
-                return Vec::new(rt.alloc());
-            }
+            words.push(word)?;
         }
     }
-    words
+    Ok(words)
 }
 
 fn main(rt: HostRuntime) -> ExitCode {
-    let words = words(&rt);
+    let Ok(words) = words(&rt) else {
+        return ExitCode::from(WANT_OF_MEMORY);
+    };
     let mut source = StdSource {
         inner: rt.stdin(),
         faults: 0,

@@ -23,7 +23,7 @@ const USAGE: &[u8] = b"usage: desk plan|check|publish|show|export|make|serve [--
 const READ_FAULT: &[u8] = b"refused read\n";
 
 /// The status of want of memory, with which nothing is written.
-const WANT_OF_MEMORY: u8 = 8;
+pub(crate) const WANT_OF_MEMORY: u8 = 8;
 
 /// The status that goes with a text, once the sink took it; 6 where the sink failed.
 fn tell<K: Sink>(sink: &mut K, text: &[u8], status: u8) -> u8
