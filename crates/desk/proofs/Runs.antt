@@ -2,7 +2,6 @@
 use Rattle.std.proofs.Common.{◌≡◌, ℕ, ◌⊎◌, ◌∙◌, sym, ap, refl, inl, inr, List, Option, Some, None, Result, Ok, Err, arith}
 use Rattle.desk_io.specs.Device.{Rose}
 use Rattle.week_book.specs.declared.weeks.Week.{Week}
-use Rattle.week_book.specs.Weeks.{IsWeek}
 use Rattle.desk_report.specs.Reports.{IsReportOut}
 use Rattle.desk_report.proofs.PlanSums.{cost_out_is}
 use Rattle.desk_core.specs.declared.refusals.Refusal.{Refusal}
@@ -11,8 +10,8 @@ use Rattle.desk_core.specs.Planning.{plan_said}
 use Rattle.desk_core.specs.Checking.{check_said}
 use Rattle.desk.specs.declared.asks.Ask.{Ask}
 use Rattle.desk.specs.declared.asks.Ask.TheVariants.{Plan, Check}
-use Rattle.desk.specs.Saying.{Said, SaysPlan, SaysCheck, Says, status_of, refused, usage, read_fault}
-use Rattle.desk.specs.Running.{SaysGiven, SaysAsked, Tells, WantsMemory, Runs, IsPlanned}
+use Rattle.desk.specs.Saying.{Said, SaysPlan, SaysCheck, Says, status_of, refused}
+use Rattle.desk.specs.Running.{SaysAsked, Runs, IsPlanned}
 
 -- a refusal's status is 3 or 4
 refusal-status : (r : Refusal) → (status_of r ≡ 3) ⊎ (status_of r ≡ 4)

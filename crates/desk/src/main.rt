@@ -13,15 +13,20 @@ use minute_line::Memory;
 use running::WANT_OF_MEMORY;
 pub use running::run_desk;
 use std::env;
+use std::io::ErrorKind;
 use std::process::ExitCode;
 
 /// The words after the program's name; none where the system does not give them as text.
 fn words(rt: &HostRuntime) -> Result<Vec<String>, Memory> {
     let mut words = Vec::new(rt.alloc());
-    if let Ok(given) = env::args(rt) {
-        for word in given.skip(1) {
-            words.push(word)?;
+    match env::args(rt) {
+        Ok(given) => {
+            for word in given.skip(1) {
+                words.push(word)?;
+            }
         }
+        Err(error) if error.kind() == ErrorKind::OutOfMemory => return Err(Memory),
+        Err(_) => {}
     }
     Ok(words)
 }
