@@ -1,25 +1,6 @@
 mod plain_hours;
 use plain_hours::*;
 
-fn next(seed: u32) -> u32 { seed.wrapping_mul(1664525).wrapping_add(1013904223) }
-
-fn stay_of(pick: u32) -> Stay {
-    let (kind, ready, off) = match pick {
-        0 => (Kind::Daily, 0, 660),
-        1 => (Kind::Daily, 0, 540),
-        2 => (Kind::Plain, 0, 180),
-        3 => (Kind::Plain, 0, 45),
-        4 => (Kind::Plain, 0, 45),
-        5 => (Kind::Plain, 10, 30),
-        6 => (Kind::Plain, 0, 15),
-        7 => (Kind::Plain, 30, 15),
-        8 => (Kind::Plain, 20, 0),
-        9 => (Kind::Weekly, 0, 2700),
-        _ => (Kind::Plain, 0, 0),
-    };
-    Stay { ready, off, kind }
-}
-
 fn call(clock: &Clock, first: &Clock, seed: u32) -> (Clock, u32) {
     let stay = stay_of((seed >> 16) % 16);
     let mark = if seed % 2 == 0 { Mark::Drive } else { Mark::Work };

@@ -146,25 +146,6 @@ fn child(case: &Case, driver: u32, pairs: &Pairs, prices: &Prices, label: &Label
     })
 }
 
-fn next(seed: u32) -> u32 { seed.wrapping_mul(1664525).wrapping_add(1013904223) }
-
-fn stay_of(pick: u32) -> Stay {
-    let (kind, ready, off) = match pick {
-        0 => (Kind::Daily, 0, 660),
-        1 => (Kind::Daily, 0, 540),
-        2 => (Kind::Plain, 0, 180),
-        3 => (Kind::Plain, 0, 45),
-        4 => (Kind::Plain, 0, 45),
-        5 => (Kind::Plain, 10, 30),
-        6 => (Kind::Plain, 0, 15),
-        7 => (Kind::Plain, 30, 15),
-        8 => (Kind::Plain, 20, 0),
-        9 => (Kind::Weekly, 0, 2700),
-        _ => (Kind::Plain, 0, 0),
-    };
-    Stay { ready, off, kind }
-}
-
 fn act_of(place: u32, pick: u32) -> Act {
     match (place, pick % 4) {
         (0, 0) => Act::Load,

@@ -1,7 +1,6 @@
 -- The front of a better label is behind the other's by the minutes between the two.
 use Rattle.std.proofs.Common.{◌≡◌, ℕ, ◌-◌, ◌≤◌, Bool, true, false, cond, [], ◌∷◌, refl, ap, sym, ◌∙◌, arith, None}
 use Rattle.std.specs.Int.{bit_at}
-use Rattle.minute_line.specs.Marks.{is_duty}
 use Rattle.hours_rules.specs.declared.clocks.Clock.{Clock}
 use Rattle.hours_rules.specs.Rules.{Past, fault}
 use Rattle.hours_rules.specs.Standing.{Stands}
@@ -9,8 +8,6 @@ use Rattle.hours_rules.specs.Order.{IsRested}
 use Rattle.hours_rules.proofs.Waiting.{ready_catches_up}
 use Rattle.week_book.specs.declared.weeks.Week.{Week}
 use Rattle.week_book.specs.Weeks.{IsWeek}
-use Rattle.duty_plan.specs.declared.duties.Act.{Act}
-use Rattle.duty_plan.specs.declared.duties.Act.TheVariants.{Leg, Serve, Load}
 use Rattle.duty_plan.specs.declared.plans.Case.{Case}
 use Rattle.duty_plan.specs.declared.labels.Label.{Label}
 use Rattle.duty_plan.specs.declared.pricing.Prices.{Prices}

@@ -1,6 +1,5 @@
 -- The same stay and act after two lines, the first of which waits some Ready minutes for the second.
-use Rattle.std.proofs.Common.{◌≡◌, ℕ, zero, suc, ◌+◌, ◌≤◌, Bool, true, false, cond, ltb, [], ◌∷◌, ◌++◌, length, replicate, refl, ap, sym, ◌∙◌, arith, append_assoc, Option, Some, None, length-append}
-use Rattle.std.proofs.lemmas.Bool.{le-ltb}
+use Rattle.std.proofs.Common.{◌≡◌, ℕ, zero, suc, ◌+◌, ◌≤◌, Bool, true, false, cond, ltb, [], ◌∷◌, ◌++◌, length, replicate, refl, ap, sym, ◌∙◌, arith, append_assoc, None, length-append}
 use Rattle.minute_line.specs.declared.marks.Mark.{Mark}
 use Rattle.minute_line.specs.declared.marks.Mark.TheVariants.{Ready, Off}
 use Rattle.minute_line.specs.declared.marks.Kind.{Kind}
@@ -9,9 +8,7 @@ use Rattle.minute_line.specs.Marks.{is_duty}
 use Rattle.minute_line.specs.Minutes.{Minute, Minutes, stretch}
 use Rattle.hours_rules.specs.declared.clocks.Clock.{Clock}
 use Rattle.hours_rules.specs.declared.clocks.Stay.{Stay}
-use Rattle.hours_rules.specs.declared.rules.Broken.{Broken}
-use Rattle.hours_rules.specs.declared.rules.Rule.{Rule}
-use Rattle.hours_rules.specs.Rules.{Past, failing, fault, fault_from, first_of_two}
+use Rattle.hours_rules.specs.Rules.{Past, fault, fault_from, first_of_two}
 use Rattle.hours_rules.specs.Standing.{Stands}
 use Rattle.hours_rules.specs.Going.{with_stay}
 use Rattle.hours_rules.specs.Order.{Together, IsBetterClock, IsEarlier, IsRested}

@@ -5,13 +5,11 @@ use Rattle.minute_line.specs.declared.marks.Kind.TheVariants.{Plain, Daily, Week
 use Rattle.minute_line.specs.declared.marks.Mark.TheVariants.{Ready, Off}
 use Rattle.minute_line.specs.declared.lines.History.{History}
 use Rattle.minute_line.specs.Minutes.{Minutes, stretch}
-use Rattle.minute_line.specs.Marks.{is_duty, is_rest}
+use Rattle.minute_line.specs.Marks.{is_rest}
 use Rattle.hours_rules.specs.Counts.{open_run}
 use Rattle.hours_rules.specs.Rules.{Past, whole}
 use Rattle.hours_rules.proofs.Determined.{as_good-itself}
 use Rattle.hours_rules.proofs.Faults.{block-stands}
-use Rattle.duty_plan.specs.declared.duties.Act.{Act}
-use Rattle.duty_plan.specs.declared.duties.Act.TheVariants.{Leg, Serve, Load}
 use Rattle.duty_plan.specs.declared.duties.Step.{Step}
 use Rattle.duty_plan.specs.declared.plans.Case.{Case}
 use Rattle.duty_plan.specs.Acts.{mark_of, minutes_of}

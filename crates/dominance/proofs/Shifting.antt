@@ -1,5 +1,5 @@
 -- Whatever may follow a front can be done with listed stays.
-use Rattle.std.proofs.Common.{◌≡◌, ℕ, ◌+◌, ◌-◌, ◌≤◌, Bool, true, false, List, [], ◌∷◌, ◌++◌, refl, ap, arith}
+use Rattle.std.proofs.Common.{◌≡◌, ℕ, ◌+◌, ◌-◌, ◌≤◌, Bool, true, false, List, [], ◌∷◌, ◌++◌, refl, ap, ◌∙◌, arith}
 use Rattle.minute_line.specs.Marks.{is_rest}
 use Rattle.week_book.specs.Weeks.{driver_of}
 use Rattle.duty_plan.specs.declared.duties.Act.{Act}
@@ -9,7 +9,7 @@ use Rattle.duty_plan.specs.Acts.{order_of_act}
 use Rattle.duty_plan.specs.Fronts.{Front, at_after, start_of}
 use Rattle.duty_plan.specs.Duties.{IsCase, IsLawfulFront, open_off_at, capacity_at, fee_or_none}
 use Rattle.duty_plan.specs.Labels.{listed_ready, is_listed}
-use Rattle.dominance.specs.Completions.{IsShifted, Shifts}
+use Rattle.dominance.specs.Completions.{IsShifted, ListsCompletions, Shifts}
 use Rattle.dominance.proofs.ShiftedSteps.{with_minutes, same-itself, start-same, plain-listed, rest-listed}
 use Rattle.dominance.proofs.ShiftedOffice.{same-step, keeps-plain, keeps-rest}
 use Rattle.dominance.proofs.ShiftedFronts.{FrontGoes, FrontsDid, KeepsAt, lawful-before, goes-itself, goes-plain, goes-rest, wait-early}
@@ -78,3 +78,9 @@ shifts-to case driver front (step ∷ more) c l =
 -- the law
 pub shift : Shifts
 shift case driver front more c l = let t = shifts-to case driver front more c l in (t.listed, t.shifted)
+
+-- and of completions
+pub lists_completions : ListsCompletions
+lists_completions case driver front more c done =
+    let t = shift case driver front more c done.lawful in
+    (t.0, t.1, record { lawful = t.1.lawful; home = t.1.place ∙ done.home })

@@ -14,7 +14,7 @@ use Rattle.duty_plan.specs.Duties.{IsLawfulFront, past_at, open_off_at, capacity
 use Rattle.duty_plan.specs.Values.{pair_at, value_after}
 use Rattle.duty_plan.specs.Labels.{forced_orders, is_forced, has_step}
 use Rattle.duty_plan.proofs.Bits.{test_bits}
-use Rattle.dominance.specs.Completions.{Simulates, IsSimulated, with_ready, delayed}
+use Rattle.dominance.specs.Completions.{IsSimulated, KeepsCompletions, Simulates, delayed, with_ready}
 use Rattle.dominance.proofs.DelayedLines.{before_none}
 use Rattle.dominance.proofs.Behind.{IsBehind, keeps, behind-step}
 use Rattle.dominance.proofs.CatchingUp.{better-behind}
@@ -125,3 +125,9 @@ simulate case driver prices forced a b better worse more c lf ls la lb fa fb h l
     by_steps n start value (step ∷ more) l =
         simulated case driver prices forced n 0 better worse (step ∷ more) start.behind.steps.0 start.behind.steps.1 value
         (followed case driver prices forced better worse n start step more l)
+
+-- and of completions
+pub keeps_completions : KeepsCompletions
+keeps_completions case driver prices forced a b better worse more c lf ls la lb fa fb h done =
+    let s = simulate case driver prices forced a b better worse more c lf ls la lb fa fb h done.lawful in
+    record { lawful = s.lawful; home = s.place ∙ done.home }

@@ -54,6 +54,14 @@ Simulates = (case : Case) (driver : ℕ) (prices : Prices) (forced : ℕ) (a b :
     a.fee_paid ≡ true → b.fee_paid ≡ true → IsBetter a b forced → IsLawfulFront case driver (more ++ worse) →
     IsSimulated case driver prices forced better worse more (delayed (b.clock.at - a.clock.at) more)
 
+-- so a completion of the worse one's front, delayed by the minutes between the two, is one of the better one's
+abbrev pub KeepsCompletions : Type 0
+KeepsCompletions = (case : Case) (driver : ℕ) (prices : Prices) (forced : ℕ) (a b : Label) (better worse more : Front) →
+    IsCase case → IsLawfulFront case driver better → IsLawfulFront case driver worse →
+    IsLabelOf case driver prices a better → IsLabelOf case driver prices b worse →
+    a.fee_paid ≡ true → b.fee_paid ≡ true → IsBetter a b forced → IsCompletion case driver worse more →
+    IsCompletion case driver better (delayed (b.clock.at - a.clock.at) more)
+
 -- each stay of some steps after a front is listed
 abbrev pub AllListedAfter : Week → Front → Front → Type 0
 AllListedAfter week front [] = Unit {0}
@@ -73,3 +81,8 @@ pub record IsShifted (case : Case) (driver : ℕ) (front more listed : Front) : 
 abbrev pub Shifts : Type 0
 Shifts = (case : Case) (driver : ℕ) (front more : Front) → IsCase case → IsLawfulFront case driver (more ++ front) →
     (listed : Front) × IsShifted case driver front more listed
+
+-- and each completion of a front has one with listed stays
+abbrev pub ListsCompletions : Type 0
+ListsCompletions = (case : Case) (driver : ℕ) (front more : Front) → IsCase case → IsCompletion case driver front more →
+    (listed : Front) × IsShifted case driver front more listed × IsCompletion case driver front listed

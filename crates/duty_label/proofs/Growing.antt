@@ -65,10 +65,9 @@ keeps case driver lorry history front n l =
     rw (open_off, capacity) at l.office
 
 -- the step that is taken after a front that has the label
-pub takes-label : (case : Case) (driver : ℕ) (prices : Prices) (lorry : Driver) (history : History) (before : Front) (label : Label) (step
-    : Step) (taken : Taken) →
-    Names case driver lorry history → HasLabel case driver prices before label → Takes case lorry history (position_of label) step taken →
-    IsTaken case.week history.open_off lorry.capacity before step taken
+pub takes-label : (case : Case) (driver : ℕ) (prices : Prices) (lorry : Driver) (history : History) (before : Front) (label : Label)
+    (step : Step) (taken : Taken) → Names case driver lorry history → HasLabel case driver prices before label →
+    Takes case lorry history (position_of label) step taken → IsTaken case.week history.open_off lorry.capacity before step taken
 takes-label case driver prices lorry history before label step taken n h t =
     t before (keeps case driver lorry history before n h.lawful) (is-position case driver prices before label h)
 
@@ -81,11 +80,9 @@ stands-label case driver prices lorry history before label n h =
     (rw past at h.label_of.clock, rw past at h.lawful.hours)
 
 -- the label's clock may go on through the step
-pub goes-label : (case : Case) (driver : ℕ) (prices : Prices) (lorry : Driver) (history : History) (label : Label) (step : Step) (taken :
-    Taken) →
-    IsCase case → Names case driver lorry history → IsLabelOfSome case driver prices label → Takes case lorry history (position_of label)
-    step taken →
-    GoesOn label.clock step.stay taken.minutes
+pub goes-label : (case : Case) (driver : ℕ) (prices : Prices) (lorry : Driver) (history : History) (label : Label) (step : Step)
+    (taken : Taken) → IsCase case → Names case driver lorry history → IsLabelOfSome case driver prices label →
+    Takes case lorry history (position_of label) step taken → GoesOn label.clock step.stay taken.minutes
 goes-label case driver prices lorry history label step taken c n s t =
     let good = takes-label case driver prices lorry history s.front label step taken n s.has_label t in
     goes-on case.week lorry.capacity history s.front step taken.minutes label.clock c.week (keeps case driver lorry history s.front n
@@ -93,21 +90,19 @@ goes-label case driver prices lorry history label step taken c n s t =
     good.office good.minutes (stands-label case driver prices lorry history s.front label n s.has_label).0
 
 -- a taken step is small
-pub small-label : (case : Case) (driver : ℕ) (prices : Prices) (lorry : Driver) (history : History) (label : Label) (step : Step) (taken :
-    Taken) →
-    IsCase case → Names case driver lorry history → IsLabelOfSome case driver prices label → Takes case lorry history (position_of label)
-    step taken →
-    IsSmallStep taken
+pub small-label : (case : Case) (driver : ℕ) (prices : Prices) (lorry : Driver) (history : History) (label : Label) (step : Step)
+    (taken : Taken) → IsCase case → Names case driver lorry history → IsLabelOfSome case driver prices label →
+    Takes case lorry history (position_of label) step taken → IsSmallStep taken
 small-label case driver prices lorry history label step taken c n s t =
     small-taken case.week history.open_off lorry.capacity s.front step taken c.week
     (takes-label case driver prices lorry history s.front label step taken n s.has_label t)
 
 -- what `go` answers for the longer line
-pub goes-line : (case : Case) (driver : ℕ) (prices : Prices) (lorry : Driver) (history : History) (before : Front) (label : Label) (step :
-    Step) (taken : Taken)
-    (answer : Result Clock Broken) → Names case driver lorry history → HasLabel case driver prices before label →
-    Takes case lorry history (position_of label) step taken → AnswersStay label.clock step.stay (mark_of step.act) taken.minutes answer →
-    Answers 0 (past_of history) (line_after case.week (step ∷ before)) answer
+pub goes-line : (case : Case) (driver : ℕ) (prices : Prices) (lorry : Driver) (history : History) (before : Front) (label : Label)
+    (step : Step) (taken : Taken) (answer : Result Clock Broken) → Names case driver lorry history →
+    HasLabel case driver prices before label → Takes case lorry history (position_of label) step taken →
+    AnswersStay label.clock step.stay (mark_of step.act) taken.minutes answer → Answers 0 (past_of history)
+    (line_after case.week (step ∷ before)) answer
 goes-line case driver prices lorry history before label step taken answer n h t a =
     let good = takes-label case driver prices lorry history before label step taken n h t in
     let s = stands-label case driver prices lorry history before label n h in
@@ -124,8 +119,7 @@ pub first-label : (case : Case) (driver : ℕ) (prices : Prices) (history : Hist
       used = 0;
       loaded = false;
       fee_paid = false;
-      value = pos
-          0;
+      value = pos 0;
     })
 first-label case driver prices history clock h s =
     let past : past_at case driver ≡ past_of history = ap past_or_none h in record {
@@ -143,9 +137,8 @@ label-value case driver prices lorry history label c p n s =
     s.has_label.lawful))
 
 -- the label of one step more
-pub longer-label : (case : Case) (driver : ℕ) (prices : Prices) (lorry : Driver) (history : History) (before : Front) (label : Label) (step
-    : Step) (taken : Taken)
-    (clock : Clock) (fee price : ℕ) (value : ℤ) → Names case driver lorry history → HasLabel case driver prices before label →
+pub longer-label : (case : Case) (driver : ℕ) (prices : Prices) (lorry : Driver) (history : History) (before : Front) (label : Label)
+    (step : Step) (taken : Taken) (clock : Clock) (fee price : ℕ) (value : ℤ) → Names case driver lorry history → HasLabel case driver prices before label →
     Takes case lorry history (position_of label) step taken → AnswersStay label.clock step.stay (mark_of step.act) taken.minutes (Ok clock) →
     fee ≡ cond label.fee_paid 0 lorry.fee → price ≡ worth (price_at prices) (order_of_act step.act) →
     value ≡ label.value +ℤ pos (fee + taken.cents) -ℤ pos price →

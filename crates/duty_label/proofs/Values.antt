@@ -97,8 +97,8 @@ value-small case driver prices open_off capacity front w p k =
     }
 
 -- the value of a front with a step more
-pub value-step : (case : Case) (driver : ℕ) (prices : Prices) (lorry : Driver) (before : Front) (step : Step) (paid : Bool) (fee cents
-    price : ℕ) →
+pub value-step : (case : Case) (driver : ℕ) (prices : Prices) (lorry : Driver) (before : Front) (step : Step) (paid : Bool)
+    (fee cents price : ℕ) →
     driver_of case.week driver ≡ Some lorry → paid ≡ has_step before → fee ≡ cond paid 0 lorry.fee →
     cents ≡ night_of case.week step before + cents_of_act case.week (place_after before) step.act → price ≡ worth (price_at prices)
     (order_of_act step.act) →

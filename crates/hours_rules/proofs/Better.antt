@@ -1,11 +1,11 @@
 -- The order on clocks: what it allows, and that it lasts.
-use Rattle.std.proofs.Common.{◌≡◌, ℕ, ◌+◌, ◌-◌, ◌≤◌, ◌≤ℤ◌, Bool, true, false, cond, ◌&&◌, leb, ltb, ◌∷◌, refl, sym, ◌∙◌, arith, pos, ℤ, ◌-ℤ◌, min, suc, zero, int_lt}
+use Rattle.std.proofs.Common.{◌≡◌, ℕ, ◌+◌, ◌-◌, ◌≤◌, ◌≤ℤ◌, Bool, true, false, cond, ◌&&◌, leb, ltb, refl, sym, ◌∙◌, arith, pos, ℤ, ◌-ℤ◌, min, suc, zero, int_lt}
 use Rattle.std.proofs.lemmas.Bool.Decides.{nat_tests}
 use Rattle.std.proofs.lemmas.Int.{ints}
 use Rattle.minute_line.specs.declared.marks.Mark.{Mark}
 use Rattle.minute_line.specs.declared.marks.Kind.{Kind}
 use Rattle.minute_line.specs.declared.marks.Kind.TheVariants.{Plain, Daily, Weekly}
-use Rattle.minute_line.specs.Minutes.{Minute, Minutes}
+use Rattle.minute_line.specs.Minutes.{Minutes}
 use Rattle.hours_rules.specs.declared.clocks.Clock.{Clock}
 use Rattle.hours_rules.specs.declared.rules.Rule.{Rule}
 use Rattle.hours_rules.specs.declared.rules.Rule.TheVariants.{H1, H2, H3, H4, H5, H6, H7, H8, H9, H10, H11}
@@ -15,7 +15,6 @@ use Rattle.hours_rules.specs.Standing.{Stands}
 use Rattle.hours_rules.specs.Order.{IsAsGood}
 use Rattle.std.proofs.Common.{true≢false}
 use Rattle.hours_rules.proofs.Rooms.{holds-within, fails-past}
-use Rattle.hours_rules.proofs.Steps.{stands-duty}
 use Rattle.hours_rules.specs.Machine.{run_ended, ticked, rested, room, reduced_here, limit_if, left_until}
 
 offset_later : (at off : ℕ) (x y : ℤ) → y ≤ℤ x → int_lt (pos 780) ((pos at -ℤ x) -ℤ pos off) ≡ true →
@@ -152,21 +151,3 @@ holds-as_good a b pa pb wa wb mark kind d g sa sb r h = by_room (room b (run_end
     by_room : (k : ℕ) → room b (run_ended b kind) mark kind r ≡ k → holds pa (record { mark = mark; kind = kind }) wa r ≡ true
     by_room zero e = absurd (true≢false (sym h ∙ fails-past b pb 0 mark kind wb d sb r e (omega arith)))
     by_room (suc k) e = holds-within a pa 0 mark kind wa d sa r (omega (arith, room-as_good a b mark kind g r))
-
--- the clocks that stand after it are in the same order
-pub record StepsAsGood (a b : Clock) (pa pb : Past) (m : Minute) (wa wb : Minutes) : Type 0 where
-  pub first : Clock
-  pub second : Clock
-  pub as_good : IsAsGood first second
-  pub first_stands : Stands first pa (m ∷ wa)
-  pub second_stands : Stands second pb (m ∷ wb)
-
-pub duty-as_good : (a b : Clock) (pa pb : Past) (wa wb : Minutes) (mark : Mark) (kind : Kind) → is_duty mark ≡ true →
-    IsAsGood a b → Stands a pa wa → Stands b pb wb → StepsAsGood a b pa pb (record { mark = mark; kind = kind }) wa wb
-duty-as_good a b pa pb wa wb mark kind d g sa sb = record {
-  first = ticked (run_ended a kind) mark 1;
-  second = ticked (run_ended b kind) mark 1;
-  as_good = ticked-as_good _ _ mark 1 (ended-as_good a b kind g);
-  first_stands = stands-duty a pa (record { mark = mark; kind = kind }) wa d sa;
-  second_stands = stands-duty b pb (record { mark = mark; kind = kind }) wb d sb;
-}

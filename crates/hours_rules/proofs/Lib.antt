@@ -15,7 +15,6 @@ pub mod Chains
 pub mod Simulate
 pub mod Waiting
 pub mod Longer
-pub mod Duties
 pub mod Sooner
 pub mod Determined
 pub mod Periods

@@ -1,5 +1,5 @@
 -- The order at an earlier minute: what lets Ready minutes be left out.
-use Rattle.std.proofs.Common.{◌≡◌, ℕ, ◌≤◌, Bool, true, false, cond, ◌&&◌, leb, refl, arith, ℤ, ◌≤ℤ◌}
+use Rattle.std.proofs.Common.{ℕ, ◌≤◌, cond, leb, refl, arith, ℤ, ◌≤ℤ◌}
 use Rattle.std.proofs.lemmas.Bool.Decides.{nat_tests}
 use Rattle.std.proofs.lemmas.Int.{ints}
 use Rattle.minute_line.specs.declared.marks.Mark.{Mark}
@@ -22,10 +22,6 @@ sooner-rested a b n s = record { at = omega (arith, s.at); as_good = rested-as_g
 
 pub sooner-ticked : (a b : Clock) (mark : Mark) (n : ℕ) → IsSooner a b → IsSooner (ticked a mark n) (ticked b mark n)
 sooner-ticked a b mark n s = record { at = omega (arith, s.at); as_good = ticked-as_good (record a { at = b.at }) b mark n s.as_good }
-
-no_rest : (x y : Bool) → ((x && false) && y) ≡ false
-no_rest true y = refl
-no_rest false y = refl
 
 -- a Plain run ends alike at an earlier minute
 pub sooner-ended : (a b : Clock) → IsSooner a b → IsSooner (run_ended a Plain) (run_ended b Plain)

@@ -1,8 +1,8 @@
 -- Spans keep the open run, and a span that begins inside a span is a span of the whole.
-use Rattle.std.proofs.Common.{◌≡◌, ℕ, ◌≤◌, Bool, true, ◌&&◌, leb, [], ◌∷◌, length, refl, ap, arith}
+use Rattle.std.proofs.Common.{◌≡◌, ◌≤◌, Bool, true, ◌&&◌, leb, [], ◌∷◌, length, refl, ap, arith}
 use Rattle.minute_line.specs.Minutes.{Minute, Minutes}
 use Rattle.minute_line.specs.Marks.{is_rest, is_duty}
-use Rattle.hours_rules.specs.Counts.{open_run, ends_run, ends_rest, ends_weekly, since, period_of, work_day_of, since_weekly}
+use Rattle.hours_rules.specs.Counts.{open_run, ends_rest, ends_weekly, since, period_of, work_day_of, since_weekly}
 
 -- a begin test that holds only at on-duty minutes
 pub record OnDuty (begins : Minute → Minutes → Bool) : Type 0 where
@@ -21,19 +21,11 @@ pub open_run-length : (line : Minutes) → open_run line ≤ length line
 open_run-length [] = omega arith
 open_run-length (m ∷ before) = grind (arith, open_run-length before)
 
--- a run that ended within a span is one that ended within the list, where the minute that the span begins with is left out
-pub ends_run-since : (n : ℕ) (begins : Minute → Minutes → Bool) → OnDuty begins → (m : Minute) (line : Minutes) →
-    ends_run n m (since begins line) ≡ ends_run n m line
-ends_run-since n begins h m line = ap (λ k. is_duty m.mark && leb n k) (open_run-since begins h line)
-
 pub duty-ends_rest : OnDuty ends_rest
 duty-ends_rest = record { duty = λ m before h. grind arith }
 
 pub duty-ends_weekly : OnDuty ends_weekly
 duty-ends_weekly = record { duty = λ m before h. grind arith }
-
-pub duty-ends_run : (n : ℕ) → OnDuty (ends_run n)
-duty-ends_run n = record { duty = λ m before h. grind arith }
 
 -- the work day is the same whether the line or its span since the last Weekly run is looked at
 pub ends_rest-since_weekly : (m : Minute) (line : Minutes) → ends_rest m (since_weekly line) ≡ ends_rest m line

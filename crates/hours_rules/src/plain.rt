@@ -264,7 +264,11 @@ fn failing(history: &History, line: &[Minute], monday: usize) -> Option<Rule> {
 }
 
 /// What the rules say of a week's line, minute by minute.
-pub fn judge_plainly(alloc: Global, history: &History, line: &Line) -> Result<Verdict, AllocError> {
+pub(crate) fn judge_plainly(
+    alloc: Global,
+    history: &History,
+    line: &Line,
+) -> Result<Verdict, AllocError> {
     let mut minutes = Minutes {
         list: Vec::new(alloc),
         run: 0,

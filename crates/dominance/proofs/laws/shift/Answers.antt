@@ -1,5 +1,8 @@
-use Rattle.dominance.proofs.Shifting.{shift}
+use Rattle.dominance.proofs.Shifting.{shift, lists_completions}
 use Rattle.dominance.proofs.laws.shift.Goals as goal
 
-pub returns : goal.returns
-returns c = shift
+pub returns-clause-steps : goal.returns-clause-steps
+returns-clause-steps c = shift
+
+pub returns-clause-completions : goal.returns-clause-completions
+returns-clause-completions c = lists_completions
