@@ -23,7 +23,7 @@ pub fn fresh(alloc: Global) -> History
 }
 
 /// A line of the same stints.
-pub fn copy_line(alloc: Global, line: &Line) -> Result<Line, Memory>
+fn copy_line(alloc: Global, line: &Line) -> Result<Line, Memory>
     ensures { IfOk result (λ copy. copy.stints ≡ line.now.stints) }
 {
     Ok(Line {

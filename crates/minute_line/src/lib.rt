@@ -19,12 +19,12 @@ mod writing;
 
 pub use dates::{Monday, monday_in, read_monday};
 pub use errors::TextError;
-pub use histories::{copy_history, copy_line, fresh};
+pub use histories::{copy_history, fresh};
 pub use lines::{History, Line};
 pub use many::{Bytes, Many, Memory, Name};
 pub use marks::{Kind, Mark, Stint};
 pub use reading::history_read;
 pub use spelling::{history_text, text_says_all};
 pub use stamps::{minute_in, monday_text, only_text, stamp, stamp_minute};
-pub use valid::{is_line_of, line_from};
+pub use valid::is_line_of;
 pub use writing::{push_decimal, push_number, push_word};

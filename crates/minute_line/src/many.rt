@@ -55,14 +55,6 @@ impl<T> Many<T> {
         Many { items }
     }
 
-    /// The vector of the list's elements.
-    pub fn into_vec(self) -> Vec<T>
-        ensures { result.items ≡ self }
-    {
-        let Many { items } = self;
-        items
-    }
-
     /// The number of elements.
     pub fn len(&self) -> usize
         ensures { result ≡ length self.now }

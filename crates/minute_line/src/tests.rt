@@ -1,7 +1,7 @@
 // What no clause says: that the definitions are those of the calendar and of the written form.
 use crate::{
-    Kind, Many, Mark, Stint, TextError, copy_history, fresh, history_read, history_text,
-    is_line_of, line_from, read_monday, stamp, stamp_minute,
+    Kind, Mark, Stint, TextError, copy_history, fresh, history_read, history_text, is_line_of,
+    read_monday, stamp, stamp_minute,
 };
 use std::test::Fail;
 
@@ -149,7 +149,6 @@ fn drive(minutes: u32) -> Stint {
 fn a_line_may_begin_with_an_empty_off_stint(rt: HostRuntime) -> Result<(), Fail> {
     let stints = [off(0, Kind::Weekly), drive(60), off(15, Kind::Plain)];
     assert!(rt; is_line_of(&stints));
-    assert!(rt; line_from(Many::from_slice(rt.alloc(), &stints)?).is_some());
     assert!(rt; !is_line_of(&[drive(60), off(0, Kind::Plain)]));
     assert!(rt; !is_line_of(&[off(0, Kind::Daily), off(15, Kind::Plain)]));
     let fresh = fresh(rt.alloc());

@@ -1,11 +1,9 @@
 // Whether stints and numbers are those of a line or of a history.
-ghost use Rattle.std.specs.Prelude.{◌≡◌, ◌↔◌, ◌&&◌, not, true, false, nat_le, IsSome, IfSome};
+ghost use Rattle.std.specs.Prelude.{◌≡◌, ◌&&◌, not, true, false, nat_le};
 ghost use Rattle.minute_line.specs.Marks.{is_weekly};
 ghost use Rattle.minute_line.specs.Minutes.{total_of};
 ghost use Rattle.minute_line.specs.Stints.{may_follow, each_follows, only_declares, is_line, is_past, all_up_to};
 
-use crate::lines::Line;
-use crate::many::Many;
 use crate::marks::Stint;
 
 /// Whether the stint may come after an Off stint, or after another one.
@@ -48,17 +46,6 @@ pub fn is_line_of(stints: &[Stint]) -> bool
                 && follow_each_other(first.mark.is_off(), rest)
         }
     }
-}
-
-/// The line of these stints. None exactly where they are no line, as `is_line_of` says.
-pub fn line_from(stints: Many<Stint>) -> Option<Line>
-    ensures some { IsSome result ↔ (is_line stints ≡ true) }
-    ensures stints { IfSome result (λ line. line.stints ≡ stints) }
-{
-    if !is_line_of(stints.as_slice()) {
-        return None;
-    }
-    Some(Line { stints })
 }
 
 /// Whether the stint may stand in a history, after an Off stint or after another one.
