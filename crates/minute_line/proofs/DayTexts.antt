@@ -1,12 +1,12 @@
 -- A day number has one date, and a date has one text.
-use Rattle.std.proofs.Common.{◌≡◌, refl, sym, ap, ◌∙◌, arith, ℕ, suc, ◌+◌, ◌-◌, ◌*◌, ◌<◌, ◌≤◌, inl, inr, List, length, drop, slice_index, pos, ℤ, drop-cons}
+use Rattle.std.proofs.Common.{◌≡◌, refl, sym, ap, ◌∙◌, arith, ℕ, suc, ◌+◌, ◌<◌, ◌≤◌, inl, inr, List, length, drop, slice_index, pos, ℤ, drop-cons}
 use Rattle.std.proofs.Math.ListN.{drop_of_length-le}
 use Rattle.std.proofs.lemmas.Bool.{cases_order}
 use Rattle.jiff_core.specs.Calendar.{IsCivilDate, days_from_civil}
 use Rattle.jiff_core.proofs.SignedLemmas.{signed_arith}
 use Rattle.jiff_core.proofs.CalendarLemmas.{day_count-lt_year, day_count-lt_month, days_from_civil-day_count}
 use Rattle.jiff_core.proofs.DateLemmas.{days_from_civil-day}
-use Rattle.minute_line.specs.DateText.{IsDateText, IsDigitAt, two_at, four_at, HasDateForm, text_day}
+use Rattle.minute_line.specs.DateText.{IsDateText, IsDigitAt, two_at, four_at, HasDateForm}
 use Rattle.minute_line.specs.DateWriting.{IsDayText}
 
 not_earlier_year : (y m d y₂ m₂ d₂ : ℕ) → IsCivilDate (pos y) m d → IsCivilDate (pos y₂) m₂ d₂ → days_from_civil (pos y) m d ≡ days_from_civil (pos y₂) m₂ d₂ → y₂ ≤ y

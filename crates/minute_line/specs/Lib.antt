@@ -2,6 +2,7 @@ pub mod Marks
 pub mod Minutes
 pub mod Stints
 pub mod Histories
+pub mod Debts
 pub mod Spelling
 pub mod Tokens
 pub mod DateText

@@ -35,14 +35,18 @@ abbrev pub stints_text : List Stint → List ℕ
 stints_text [] = 45 ∷ []
 stints_text (s ∷ ss) = stint_text s ++ flat_map (λ t. 44 ∷ stint_text t) ss
 
--- the five parts of a history's text, with a space between each two
-abbrev pub spelling : Fields → List ℕ
-spelling f =
+-- a history's text without its debt: five parts, with a space between each two
+abbrev pub older_spelling : Fields → List ℕ
+older_spelling f =
     decimal f.prev_weekly
     ++ (32 ∷ (decimal f.prev_drive
     ++ (32 ∷ (numbers_text f.work16
     ++ (32 ∷ (decimal f.open_off
     ++ (32 ∷ stints_text f.stints)))))))
+
+-- the seven parts of a history's text, with a space between each two
+abbrev pub spelling : Fields → List ℕ
+spelling f = older_spelling f ++ (32 ∷ (decimal f.owed ++ (32 ∷ decimal f.due)))
 
 -- the answer is a history with these fields, or memory was wanted
 abbrev pub GivesBack : Fields → Result History TextError → Type 0

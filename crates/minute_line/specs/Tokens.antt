@@ -1,6 +1,6 @@
 -- How a history's text is read: as tokens, each a letter and a number, with a space or a comma after each but the last.
 -- Nothing is refused here: what comes out is written again, and compared.
-use Rattle.std.specs.Prelude.{ℕ, zero, suc, ◌+◌, ◌-◌, ◌*◌, Bool, ◌&&◌, ◌||◌, if◌then◌else◌, List, [], ◌∷◌, ◌++◌, drop, fold, nat_le, nat_eq}
+use Rattle.std.specs.Prelude.{ℕ, zero, suc, ◌+◌, ◌-◌, ◌*◌, Bool, ◌&&◌, ◌||◌, if◌then◌else◌, List, [], ◌∷◌, ◌++◌, length, take, drop, fold, nat_le, nat_eq}
 use Rattle.minute_line.specs.declared.marks.Mark.{Mark}
 use Rattle.minute_line.specs.declared.marks.Mark.TheVariants.{Drive, Work, Ready, Off}
 use Rattle.minute_line.specs.declared.marks.Kind.{Kind}
@@ -74,16 +74,22 @@ abbrev pub stints_of : List Token → List Stint
 stints_of [] = []
 stints_of (t ∷ ts) = if nat_eq t.letter 45 then stints_of ts else stint_of t ∷ stints_of ts
 
--- the only fields whose text these tokens could be: two numbers, sixteen numbers, a number, and the stints
-abbrev pub candidate_of : List Token → Fields
-candidate_of ts = record {
+-- two numbers, sixteen numbers, a number and the stints, and the two numbers of the debt
+abbrev pub fields_by : List Token → List Token → Fields
+fields_by ts debt = record {
   prev_weekly = value_at ts 0;
   prev_drive = value_at ts 1;
   work16 = value_at ts 2 ∷ value_at ts 3 ∷ value_at ts 4 ∷ value_at ts 5 ∷ value_at ts 6 ∷ value_at ts 7 ∷ value_at ts 8 ∷ value_at ts 9
       ∷ value_at ts 10 ∷ value_at ts 11 ∷ value_at ts 12 ∷ value_at ts 13 ∷ value_at ts 14 ∷ value_at ts 15 ∷ value_at ts 16 ∷ value_at ts 17 ∷ [];
   open_off = value_at ts 18;
   stints = stints_of (drop 19 ts);
+  owed = value_at debt 0;
+  due = value_at debt 1;
 }
+
+-- the only fields whose text these tokens could be: the last two are the debt
+abbrev pub candidate_of : List Token → Fields
+candidate_of ts = fields_by (take (length ts - 2) ts) (drop (length ts - 2) ts)
 
 -- the fields that were read
 abbrev pub parts_of : Candidate → Fields
@@ -93,4 +99,6 @@ parts_of c = record {
   open_off = c.open_off;
   prev_drive = c.prev_drive;
   work16 = c.work16;
+  owed = c.owed;
+  due = c.due;
 }

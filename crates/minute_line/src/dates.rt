@@ -1,5 +1,5 @@
 // Dates as text, by the calendar of `jiff`.
-ghost use Rattle.std.specs.Prelude.{◌≡◌, ◌↔◌, ◌+◌, ◌*◌, ◌≤◌, ◌<◌, pos, ◌≤ℤ◌, IsSome, IfSome, length, slice_index};
+ghost use Rattle.std.specs.Prelude.{◌≡◌, ◌↔◌, ◌+◌, ◌*◌, ◌≤◌, ◌<◌, pos, ◌≤ℤ◌, IsSome, IfSome, length};
 ghost use Rattle.jiff_core.specs.Calendar.{IsBetween, weekday_number};
 ghost use Rattle.jiff_core.specs.Date.{epoch_day};
 ghost use Rattle.minute_line.specs.DateText.{IsDigitAt, digit_at, two_at, four_at, IsDateText, IsMondayText, text_day};

@@ -3,7 +3,6 @@ ghost use Rattle.std.specs.Prelude.{◌≡◌};
 ghost use Rattle.minute_line.specs.declared.errors.TextError.TheVariants.{Memory as WantOfMemory};
 
 use crate::many::Memory;
-use std::alloc::{AllocError, AllocFailed};
 
 /// Why a text was not read.
 #[derive(Clone, Copy, PartialEq, Eq, Debug)]
@@ -18,22 +17,6 @@ impl From<Memory> for TextError {
     ghost from_gives = { λ _ e. e ≡ WantOfMemory };
 
     fn from(_error: Memory) -> TextError {
-        TextError::Memory
-    }
-}
-
-impl From<AllocError> for TextError {
-    ghost from_gives = { λ _ e. e ≡ WantOfMemory };
-
-    fn from(_error: AllocError) -> TextError {
-        TextError::Memory
-    }
-}
-
-impl<T: Drop> From<AllocFailed<T>> for TextError {
-    ghost from_gives = { λ _ e. e ≡ WantOfMemory };
-
-    fn from(_error: AllocFailed<T>) -> TextError {
         TextError::Memory
     }
 }

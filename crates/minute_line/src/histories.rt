@@ -6,8 +6,8 @@ use crate::lines::{History, Line};
 use crate::many::{Many, Memory};
 use std::alloc::Global;
 
-/// The history of a driver who was at rest for the 2,700 minutes before Monday, and did nothing before. It takes no
-/// memory.
+/// The history of a driver who was at rest for the 2,700 minutes before Monday, did nothing before and owes nothing. It
+/// takes no memory.
 pub fn fresh(alloc: Global) -> History
     ensures { fields_of result ≡ fresh_fields }
 {
@@ -19,6 +19,8 @@ pub fn fresh(alloc: Global) -> History
         open_off: 2700,
         prev_drive: 0,
         work16: [0; 16],
+        owed: 0,
+        due: 0,
     }
 }
 
@@ -43,5 +45,7 @@ pub fn copy_history(alloc: Global, history: &History) -> Result<History, Memory>
         open_off: history.open_off,
         prev_drive: history.prev_drive,
         work16,
+        owed: history.owed,
+        due: history.due,
     })
 }

@@ -3,6 +3,7 @@
 #![tactic(auto)]
 
 mod dates;
+mod debts;
 mod errors;
 mod histories;
 mod lines;
@@ -18,9 +19,10 @@ mod valid;
 mod writing;
 
 pub use dates::{Monday, monday_in, read_monday};
+pub use debts::{REGULAR_WEEKLY_REST, upgrade};
 pub use errors::TextError;
 pub use histories::{copy_history, fresh};
-pub use lines::{History, Line};
+pub use lines::{History, Line, WEEK_MINUTES};
 pub use many::{Bytes, Many, Memory, Name};
 pub use marks::{Kind, Mark, Stint};
 pub use reading::history_read;

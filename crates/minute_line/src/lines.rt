@@ -1,10 +1,14 @@
 // The stints of a week, and what a driver brings into it.
-ghost use Rattle.std.specs.Prelude.{◌≡◌, ℕ, ◌≤◌, List, true, false, length};
+ghost use Rattle.std.specs.Prelude.{◌≡◌, ◌≤◌, true, false, length};
+ghost use Rattle.minute_line.specs.declared.lines.TheConstants.{WEEK_MINUTES};
 ghost use Rattle.minute_line.specs.Minutes.{total_of};
 ghost use Rattle.minute_line.specs.Stints.{is_line, is_past, all_up_to};
 
 use crate::many::Many;
 use crate::marks::Stint;
+
+/// The minutes of a week.
+pub const WEEK_MINUTES: u32 = 10_080;
 
 /// The stints of a driver's week, one after another from Monday 00:00; what is missing at its end is Off.
 ///
@@ -29,11 +33,18 @@ pub struct History {
     pub prev_drive: u32,
     /// The working minutes of the sixteen weeks before, the oldest first, each at most 10,080.
     pub work16: [u32; 16],
+    /// The minutes of rest that the driver owes for a reduced weekly rest, at most 1,260 (Art. 8(6)).
+    pub owed: u32,
+    /// The end of the week by which they are due, in weeks from Monday, at most 3, and 0 where none are owed.
+    pub due: u32,
     pub ghost rest: { (1440 ≤ prev_weekly) × (prev_weekly ≤ 1000000) },
     pub ghost shape: { is_past false stints.stints ≡ true },
     pub ghost total: { total_of stints.stints ≤ 20160 },
     pub ghost run: { open_off ≤ 20160 },
-    pub ghost drive: { prev_drive ≤ 10080 },
+    pub ghost drive: { prev_drive ≤ WEEK_MINUTES },
     pub ghost sixteen: { length work16 ≡ 16 },
-    pub ghost weeks: { all_up_to 10080 work16 ≡ true },
+    pub ghost weeks: { all_up_to WEEK_MINUTES work16 ≡ true },
+    pub ghost debt: { owed ≤ 1260 },
+    pub ghost deadline: { due ≤ 3 },
+    pub ghost no_debt: { owed ≡ 0 → due ≡ 0 },
 }

@@ -1,5 +1,5 @@
 // The project's list, and its answer for want of memory.
-ghost use Rattle.std.specs.Prelude.{◌≡◌, ℕ, ◌+◌, ◌==◌, List, [], ◌∷◌, ◌++◌, length, IfOk, OnErr, OnOk, slice_get, option_copied};
+ghost use Rattle.std.specs.Prelude.{◌≡◌, ◌+◌, ◌<◌, ◌==◌, List, [], ◌∷◌, ◌++◌, length, set, IfOk, OnErr, OnOk, slice_get, option_copied};
 
 use std::alloc::{AllocError, AllocFailed, Global};
 use std::marker::Model;
@@ -55,6 +55,14 @@ impl<T> Many<T> {
         Many { items }
     }
 
+    /// The elements as a vector.
+    pub fn into_vec(self) -> Vec<T>
+        ensures { result.items ≡ self }
+    {
+        let Many { items } = self;
+        items
+    }
+
     /// The number of elements.
     pub fn len(&self) -> usize
         ensures { result ≡ length self.now }
@@ -92,6 +100,16 @@ impl<T> Many<T> {
     {
         self.items.push(value)?;
         Ok(())
+    }
+
+    /// Puts a value in the place of an element, which is dropped. It takes no memory.
+    pub fn set(&mut self, place: usize, value: T)
+    where
+        T: Drop,
+        requires place { place < length self.old }
+        ensures { self.new ≡ set self.old place value }
+    {
+        self.items[place] = value;
     }
 }
 

@@ -1,12 +1,12 @@
 // The history of a text. The only history whose text this could be is read, tested, written again and compared.
-ghost use Rattle.std.specs.Prelude.{◌≡◌, ◌↔◌, true, IfOk, IsSome, IfSome};
-ghost use Rattle.minute_line.specs.Histories.{Fields, fields_of, is_history};
+ghost use Rattle.std.specs.Prelude.{◌≡◌, true, IfOk};
+ghost use Rattle.minute_line.specs.Histories.{fields_of, is_history};
 ghost use Rattle.minute_line.specs.Spelling.{spelling, GivesBack};
 ghost use Rattle.minute_line.specs.Tokens.{candidate_of, tokens_of, parts_of};
 ghost use Rattle.minute_line.specs.declared.lines.History.{History as AHistory};
 
 use crate::errors::TextError;
-use crate::lines::{History, Line};
+use crate::lines::{History, Line, WEEK_MINUTES};
 use crate::many::{Many, Memory};
 use crate::marks::Stint;
 use crate::spelling::history_text;
@@ -22,6 +22,8 @@ pub struct Candidate {
     pub open_off: u32,
     pub prev_drive: u32,
     pub work16: [u32; 16],
+    pub owed: u32,
+    pub due: u32,
 }
 
 impl Candidate {
@@ -31,9 +33,10 @@ impl Candidate {
     {
         let rests = (1440 <= self.prev_weekly && self.prev_weekly <= 1_000_000)
             && self.open_off <= 20160;
-        let sums = self.prev_drive <= 10080 && are_up_to(10080, &self.work16);
+        let debt = self.owed <= 1260 && (self.due <= 3 && (self.owed >= 1 || self.due == 0));
+        let sums = self.prev_drive <= WEEK_MINUTES && are_up_to(WEEK_MINUTES, &self.work16);
         let stints = is_past_of(self.stints.as_slice()) && are_few(self.stints.as_slice());
-        rests && (sums && stints)
+        (rests && debt) && (sums && stints)
     }
 
     /// The history that it is.
@@ -50,6 +53,8 @@ impl Candidate {
             open_off: self.open_off,
             prev_drive: self.prev_drive,
             work16,
+            owed: self.owed,
+            due: self.due,
         }
     }
 }
@@ -59,7 +64,8 @@ fn read_parts(alloc: Global, text: &[u8]) -> Result<Candidate, Memory>
     ensures { IfOk result (λ c. parts_of c ≡ candidate_of (tokens_of text.now)) }
 {
     let all = tokens(alloc, text)?;
-    let t = all.as_slice();
+    let all = all.as_slice();
+    let (t, debt) = all.split_at(all.len().saturating_sub(2));
     let rest = if t.len() < 19 { &t[..0] } else { &t[19..] };
     let stints = stints(alloc, rest)?;
     Ok(Candidate {
@@ -85,6 +91,8 @@ fn read_parts(alloc: Global, text: &[u8]) -> Result<Candidate, Memory>
             number(t, 16),
             number(t, 17),
         ],
+        owed: number(debt, 0),
+        due: number(debt, 1),
     })
 }
 
@@ -92,7 +100,7 @@ fn read_parts(alloc: Global, text: &[u8]) -> Result<Candidate, Memory>
 pub fn history_read(alloc: Global, text: &[u8]) -> Result<History, TextError>
     // What is read is spelled so.
     ensures found { IfOk result (λ history. text.now ≡ spelling (fields_of history)) }
-    // What a history spells is read back.
+    // What a history is spelled as is read back.
     ensures back { (history : AHistory) → text.now ≡ spelling (fields_of history) → GivesBack (fields_of history) result }
 {
     let candidate = read_parts(alloc, text)?;

@@ -1,14 +1,14 @@
-// The text that a history is written as: five parts, with a space between each two.
+// The text that a history is written as: seven parts, with a space between each two.
 ghost use Rattle.std.specs.Prelude.{◌≡◌, ◌++◌, ◌∷◌, [], OnOk, IfOk};
 ghost use Rattle.std.specs.Fmt.{decimal};
 ghost use Rattle.std.specs.List.{flat_map};
 ghost use Rattle.minute_line.specs.Histories.{fields_of};
-ghost use Rattle.minute_line.specs.Spelling.{letter_of, stint_text, numbers_text, stints_text, spelling};
+ghost use Rattle.minute_line.specs.Spelling.{letter_of, stint_text, numbers_text, stints_text, older_spelling, spelling};
 
 use crate::lines::History;
 use crate::many::{Bytes, Many, Memory};
 use crate::marks::{Kind, Mark, Stint};
-use crate::writing::push_decimal;
+use crate::writing::{push_decimal, push_number};
 use std::alloc::Global;
 
 /// Adds numbers, each with a comma before it.
@@ -83,11 +83,9 @@ fn push_stints(out: &mut Bytes, stints: &[Stint]) -> Result<(), Memory>
     }
 }
 
-/// The text of a history: `prev_weekly`, `prev_drive`, the sixteen numbers of `work16`, `open_off` and the stints, with
-/// a space between each two of these and a comma between each two numbers or stints. A stint is a letter and its
-/// minutes: D drive, W work, R ready, P off plain, N a daily rest; `-` stands for no stints.
-pub fn history_text(alloc: Global, history: &History) -> Result<Bytes, Memory>
-    ensures { IfOk result (λ text. text ≡ spelling (fields_of history.now)) }
+/// The text of a history without its debt: the five parts that its text begins with.
+fn older_text(alloc: Global, history: &History) -> Result<Bytes, Memory>
+    ensures { IfOk result (λ text. text ≡ older_spelling (fields_of history.now)) }
 {
     let mut text = Many::new(alloc);
     push_decimal(&mut text, history.prev_weekly as u64)?;
@@ -99,6 +97,18 @@ pub fn history_text(alloc: Global, history: &History) -> Result<Bytes, Memory>
     push_decimal(&mut text, history.open_off as u64)?;
     text.push(b' ')?;
     push_stints(&mut text, history.stints.stints.as_slice())?;
+    Ok(text)
+}
+
+/// The text of a history: `prev_weekly`, `prev_drive`, the sixteen numbers of `work16`, `open_off`, the stints, `owed`
+/// and `due`, with a space between each two of these and a comma between each two numbers or stints. A stint is a letter
+/// and its minutes: D drive, W work, R ready, P off plain, N a daily rest; `-` stands for no stints.
+pub fn history_text(alloc: Global, history: &History) -> Result<Bytes, Memory>
+    ensures { IfOk result (λ text. text ≡ spelling (fields_of history.now)) }
+{
+    let mut text = older_text(alloc, history)?;
+    push_number(&mut text, history.owed as u64)?;
+    push_number(&mut text, history.due as u64)?;
     Ok(text)
 }
 

@@ -1,5 +1,5 @@
 // Stamps: a minute as a date and a time of day in UTC.
-ghost use Rattle.std.specs.Prelude.{ℤ, List, ℕ, ◌≡◌, ◌↔◌, ◌+◌, ◌*◌, ◌≤◌, ◌<◌, pos, ◌*ℤ◌, ◌+ℤ◌, ◌-ℤ◌, ◌≤ℤ◌, neg_ℤ, IsSome, IfSome, length, slice_index};
+ghost use Rattle.std.specs.Prelude.{ℤ, List, ℕ, ◌≡◌, ◌↔◌, ◌+◌, ◌*◌, ◌≤◌, ◌<◌, pos, ◌*ℤ◌, ◌+ℤ◌, ◌-ℤ◌, ◌≤ℤ◌, neg_ℤ, IsSome, IfSome, length};
 ghost use Rattle.jiff_core.specs.Calendar.{IsBetween, IsEpochDay};
 ghost use Rattle.jiff_core.specs.Date.{epoch_day};
 ghost use Rattle.minute_line.specs.DateWriting.{IsDayText};

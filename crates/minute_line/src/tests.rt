@@ -1,7 +1,7 @@
 // What no clause says: that the definitions are those of the calendar and of the written form.
 use crate::{
     Kind, Mark, Stint, TextError, copy_history, fresh, history_read, history_text, is_line_of,
-    read_monday, stamp, stamp_minute,
+    read_monday, stamp, stamp_minute, upgrade,
 };
 use std::test::Fail;
 
@@ -73,18 +73,18 @@ fn a_stamp_is_its_minute(rt: HostRuntime) -> Result<(), Fail> {
 #[test]
 fn a_text_of_a_history_is_read_and_written(rt: HostRuntime) -> Result<(), Fail> {
     for text in [
-        "3285 120 0,0,0,0,0,0,0,0,0,0,0,0,0,0,0,165 9510 W15,D60,W30,D60",
-        "1440 0 0,0,0,0,0,0,0,0,0,0,0,0,0,0,0,0 0 -",
-        "1000000 10080 10080,1,2,3,4,5,6,7,8,9,10,11,12,13,14,15 20160 R20160",
-        "2700 0 0,0,0,0,0,0,0,0,0,0,0,0,0,0,0,0 0 P30,D60",
-        "2700 0 0,0,0,0,0,0,0,0,0,0,0,0,0,0,0,0 0 W15,W15,N660,R1",
+        "3285 120 0,0,0,0,0,0,0,0,0,0,0,0,0,0,0,165 9510 W15,D60,W30,D60 0 0",
+        "1440 0 0,0,0,0,0,0,0,0,0,0,0,0,0,0,0,0 0 - 1260 3",
+        "1000000 10080 10080,1,2,3,4,5,6,7,8,9,10,11,12,13,14,15 20160 R20160 1 0",
+        "2700 0 0,0,0,0,0,0,0,0,0,0,0,0,0,0,0,0 0 P30,D60 0 0",
+        "2700 0 0,0,0,0,0,0,0,0,0,0,0,0,0,0,0,0 0 W15,W15,N660,R1 1200 1",
     ] {
         let history = history_read(rt.alloc(), text.as_bytes())?;
         let copy = copy_history(rt.alloc(), &history)?;
         let again = history_text(rt.alloc(), &copy)?;
         assert!(rt; again.as_slice() == text.as_bytes(), "at {text}");
     }
-    let text = "3285 120 0,0,0,0,0,0,0,0,0,0,0,0,0,0,0,165 9510 P15,D60";
+    let text = "3285 120 0,0,0,0,0,0,0,0,0,0,0,0,0,0,0,165 9510 P15,D60 1200 3";
     let history = history_read(rt.alloc(), text.as_bytes())?;
     assert_eq!(rt; history.prev_weekly, 3285);
     assert_eq!(rt; history.prev_drive, 120);
@@ -94,39 +94,82 @@ fn a_text_of_a_history_is_read_and_written(rt: HostRuntime) -> Result<(), Fail> 
     );
     assert_eq!(rt; history.open_off, 9510);
     assert!(rt; history.stints.stints.as_slice() == [off(15, Kind::Plain), drive(60)].as_slice());
+    assert_eq!(rt; (history.owed, history.due), (1200, 3));
     Ok(())
 }
 
 // Each is the text of a history but for one fault: a leading zero; a trailing off stint, two side by side, a stint of no
 // minute, a weekly one, a letter that is none, a minute too many; a trailing space, two spaces, no last part, an empty
-// one; fifteen weeks, seventeen; a week, last week or the open run above its limit; a weekly rest too short or too long;
-// and no text at all.
+// one, a part too many; fifteen weeks, seventeen; a week, last week or the open run above its limit; a weekly rest too
+// short or too long; more owed than a weekly rest can lack, due in four weeks, due without a debt; and no text at all.
 #[test]
 fn a_text_of_no_history_is_bad(rt: HostRuntime) {
     for text in [
-        "3285 120 0,0,0,0,0,0,0,0,0,0,0,0,0,0,0,165 9510 W15,D60,W30,D060",
-        "2700 0 0,0,0,0,0,0,0,0,0,0,0,0,0,0,0,0 0 D60,P30",
-        "2700 0 0,0,0,0,0,0,0,0,0,0,0,0,0,0,0,0 0 P30,N660,D60",
-        "2700 0 0,0,0,0,0,0,0,0,0,0,0,0,0,0,0,0 0 D0",
-        "2700 0 0,0,0,0,0,0,0,0,0,0,0,0,0,0,0,0 0 ?1440,D60",
-        "2700 0 0,0,0,0,0,0,0,0,0,0,0,0,0,0,0,0 0 M60",
-        "2700 0 0,0,0,0,0,0,0,0,0,0,0,0,0,0,0,0 0 D20160,W1",
-        "2700 0 0,0,0,0,0,0,0,0,0,0,0,0,0,0,0,0 0 - ",
-        "2700  0 0,0,0,0,0,0,0,0,0,0,0,0,0,0,0,0 0 -",
-        "2700 0 0,0,0,0,0,0,0,0,0,0,0,0,0,0,0,0 0",
-        "2700 0 0,0,0,0,0,0,0,0,0,0,0,0,0,0,0,0 0 ",
-        "2700 0 0,0,0,0,0,0,0,0,0,0,0,0,0,0,0 0 -",
-        "2700 0 0,0,0,0,0,0,0,0,0,0,0,0,0,0,0,0,0 0 -",
-        "2700 0 0,0,0,0,0,0,0,0,0,0,0,0,0,0,0,10081 0 -",
-        "2700 10081 0,0,0,0,0,0,0,0,0,0,0,0,0,0,0,0 0 -",
-        "2700 0 0,0,0,0,0,0,0,0,0,0,0,0,0,0,0,0 20161 -",
-        "1439 0 0,0,0,0,0,0,0,0,0,0,0,0,0,0,0,0 0 -",
-        "1000001 0 0,0,0,0,0,0,0,0,0,0,0,0,0,0,0,0 0 -",
+        "3285 120 0,0,0,0,0,0,0,0,0,0,0,0,0,0,0,165 9510 W15,D60,W30,D060 0 0",
+        "2700 0 0,0,0,0,0,0,0,0,0,0,0,0,0,0,0,0 0 D60,P30 0 0",
+        "2700 0 0,0,0,0,0,0,0,0,0,0,0,0,0,0,0,0 0 P30,N660,D60 0 0",
+        "2700 0 0,0,0,0,0,0,0,0,0,0,0,0,0,0,0,0 0 D0 0 0",
+        "2700 0 0,0,0,0,0,0,0,0,0,0,0,0,0,0,0,0 0 ?1440,D60 0 0",
+        "2700 0 0,0,0,0,0,0,0,0,0,0,0,0,0,0,0,0 0 M60 0 0",
+        "2700 0 0,0,0,0,0,0,0,0,0,0,0,0,0,0,0,0 0 D20160,W1 0 0",
+        "2700 0 0,0,0,0,0,0,0,0,0,0,0,0,0,0,0,0 0 - 0 0 ",
+        "2700  0 0,0,0,0,0,0,0,0,0,0,0,0,0,0,0,0 0 - 0 0",
+        "2700 0 0,0,0,0,0,0,0,0,0,0,0,0,0,0,0,0 0 -",
+        "2700 0 0,0,0,0,0,0,0,0,0,0,0,0,0,0,0,0 0 - 0",
+        "2700 0 0,0,0,0,0,0,0,0,0,0,0,0,0,0,0,0 0  0 0",
+        "2700 0 0,0,0,0,0,0,0,0,0,0,0,0,0,0,0,0 0 - 0 0 0",
+        "2700 0 0,0,0,0,0,0,0,0,0,0,0,0,0,0,0 0 - 0 0",
+        "2700 0 0,0,0,0,0,0,0,0,0,0,0,0,0,0,0,0,0 0 - 0 0",
+        "2700 0 0,0,0,0,0,0,0,0,0,0,0,0,0,0,0,10081 0 - 0 0",
+        "2700 10081 0,0,0,0,0,0,0,0,0,0,0,0,0,0,0,0 0 - 0 0",
+        "2700 0 0,0,0,0,0,0,0,0,0,0,0,0,0,0,0,0 20161 - 0 0",
+        "1439 0 0,0,0,0,0,0,0,0,0,0,0,0,0,0,0,0 0 - 0 0",
+        "1000001 0 0,0,0,0,0,0,0,0,0,0,0,0,0,0,0,0 0 - 0 0",
+        "2700 0 0,0,0,0,0,0,0,0,0,0,0,0,0,0,0,0 0 - 1261 0",
+        "2700 0 0,0,0,0,0,0,0,0,0,0,0,0,0,0,0,0 0 - 1260 4",
+        "2700 0 0,0,0,0,0,0,0,0,0,0,0,0,0,0,0,0 0 - 0 1",
         "",
     ] {
         let read = history_read(rt.alloc(), text.as_bytes());
         assert!(rt; matches!(read, Err(TextError::Bad)), "at {text}");
     }
+}
+
+// The rest of 1,500 minutes lacks 1,200 of 2,700 and ended 9,675 minutes before Monday, in the week before. One that
+// ended 10,080 minutes before Monday had its last minute in the week before that one.
+#[test]
+fn a_text_from_before_debts_states_what_its_rest_left(rt: HostRuntime) -> Result<(), Fail> {
+    for (before, text) in [
+        (
+            "1500 120 0,0,0,0,0,0,0,0,0,0,0,0,0,0,0,0 9510 W15,D60,W30,D60",
+            "1500 120 0,0,0,0,0,0,0,0,0,0,0,0,0,0,0,0 9510 W15,D60,W30,D60 1200 3",
+        ),
+        (
+            "2699 0 0,0,0,0,0,0,0,0,0,0,0,0,0,0,0,0 10079 -",
+            "2699 0 0,0,0,0,0,0,0,0,0,0,0,0,0,0,0,0 10079 - 1 3",
+        ),
+        (
+            "1440 0 0,0,0,0,0,0,0,0,0,0,0,0,0,0,0,0 10020 D60",
+            "1440 0 0,0,0,0,0,0,0,0,0,0,0,0,0,0,0,0 10020 D60 1260 2",
+        ),
+        (
+            "1440 0 0,0,0,0,0,0,0,0,0,0,0,0,0,0,0,0 20160 R10080",
+            "1440 0 0,0,0,0,0,0,0,0,0,0,0,0,0,0,0,0 20160 R10080 1260 0",
+        ),
+        (
+            "2700 0 0,0,0,0,0,0,0,0,0,0,0,0,0,0,0,0 0 -",
+            "2700 0 0,0,0,0,0,0,0,0,0,0,0,0,0,0,0,0 0 - 0 0",
+        ),
+    ] {
+        let history = upgrade(rt.alloc(), before.as_bytes())?;
+        let again = history_text(rt.alloc(), &history)?;
+        assert!(rt; again.as_slice() == text.as_bytes(), "at {before}");
+        assert!(rt;
+            matches!(upgrade(rt.alloc(), text.as_bytes()), Err(TextError::Bad)),
+            "at {text}"
+        );
+    }
+    Ok(())
 }
 
 fn off(minutes: u32, kind: Kind) -> Stint {
@@ -153,8 +196,14 @@ fn a_line_may_begin_with_an_empty_off_stint(rt: HostRuntime) -> Result<(), Fail>
     assert!(rt; !is_line_of(&[off(0, Kind::Daily), off(15, Kind::Plain)]));
     let fresh = fresh(rt.alloc());
     assert_eq!(rt;
-        (fresh.prev_weekly, fresh.open_off, fresh.prev_drive),
-        (2700, 2700, 0)
+        (
+            fresh.prev_weekly,
+            fresh.open_off,
+            fresh.prev_drive,
+            fresh.owed,
+            fresh.due
+        ),
+        (2700, 2700, 0, 0, 0)
     );
     Ok(())
 }

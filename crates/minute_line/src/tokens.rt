@@ -1,5 +1,5 @@
 // The tokens of a history's text. Every text has tokens: what it should not have shows once they are written again.
-ghost use Rattle.std.specs.Prelude.{◌≡◌, ◌++◌, ◌≤◌, true, IfOk};
+ghost use Rattle.std.specs.Prelude.{◌≡◌, ◌≤◌, true, IfOk};
 ghost use Rattle.minute_line.specs.Tokens.{is_separator, is_digit, grown, tokens_of, value_at, mark_of, kind_of, stint_of, stints_of};
 
 use crate::many::{Many, Memory};

@@ -22,3 +22,12 @@ invariant_of-result-2-clause-drive c = (holds (parts_of c.args.self) c.requires)
 
 pub invariant_of-result-2-clause-weeks : goal.invariant_of-result-2-clause-weeks
 invariant_of-result-2-clause-weeks c = (holds (parts_of c.args.self) c.requires).weeks
+
+pub invariant_of-result-2-clause-debt : goal.invariant_of-result-2-clause-debt
+invariant_of-result-2-clause-debt c = (holds (parts_of c.args.self) c.requires).debt
+
+pub invariant_of-result-2-clause-deadline : goal.invariant_of-result-2-clause-deadline
+invariant_of-result-2-clause-deadline c = (holds (parts_of c.args.self) c.requires).deadline
+
+pub invariant_of-result-2-clause-no_debt : goal.invariant_of-result-2-clause-no_debt
+invariant_of-result-2-clause-no_debt c = (holds (parts_of c.args.self) c.requires).no_debt
