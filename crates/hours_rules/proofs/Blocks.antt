@@ -32,6 +32,8 @@ stands-off_block c past zero kind week s = record {
   work_week = s.work_week;
   prev_drive = s.prev_drive;
   work_before = s.work_before;
+  owed = s.owed;
+  due = s.due;
 }
 stands-off_block c past (suc n) kind week s =
     let t = stands-off (rested c n) past (record { mark = Off; kind = kind }) (stretch n Off kind week) refl
@@ -54,6 +56,8 @@ stands-off_block c past (suc n) kind week s =
       work_week = t.work_week;
       prev_drive = t.prev_drive;
       work_before = t.work_before;
+      owed = t.owed;
+      due = t.due;
     }
 
 pub stands-block : (c : Clock) (past : Past) (n : ℕ) (mark : Mark) (kind : Kind) (week : Minutes) → is_duty mark ≡ true →
@@ -80,4 +84,6 @@ stands-block c past (suc n) mark kind week d s =
       work_week = grind (arith, t.work_week);
       prev_drive = t.prev_drive;
       work_before = t.work_before;
+      owed = t.owed;
+      due = t.due;
     }

@@ -6,10 +6,10 @@ use Rattle.minute_line.specs.Marks.{is_duty}
 use Rattle.hours_rules.specs.declared.clocks.Clock.{Clock}
 use Rattle.hours_rules.specs.Rules.{Past, failing, all_rules, fault_from}
 use Rattle.hours_rules.specs.Standing.{Stands}
-use Rattle.hours_rules.specs.Order.{IsAsGood}
+use Rattle.hours_rules.specs.Order.{DominatesAtMinute}
 use Rattle.hours_rules.specs.Machine.{run_ended, ticked, rested}
 use Rattle.hours_rules.proofs.Steps.{stands-duty, stands-off}
-use Rattle.hours_rules.proofs.Better.{holds-as_good}
+use Rattle.hours_rules.proofs.Better.{holds-by_room}
 use Rattle.hours_rules.proofs.Faults.{find-same, none_judged}
 use Rattle.hours_rules.proofs.Simulate.{off_mark, off_fine}
 
@@ -19,7 +19,7 @@ pub record SameClock (pa pb : Past) (wa wb : Minutes) : Type 0 where
   pub first : Stands clock pa wa
   pub second : Stands clock pb wb
 
-pub as_good-itself : (c : Clock) → IsAsGood c c
+pub as_good-itself : (c : Clock) → DominatesAtMinute c c
 as_good-itself c = record {
   at = refl;
   off = refl;
@@ -39,6 +39,8 @@ as_good-itself c = record {
   work_week = omega arith;
   prev_drive = refl;
   work_before = refl;
+  owed = omega arith;
+  due = λ h. omega (arith, ints);
 }
 
 same_test : (x y : Bool) → (x ≡ true → y ≡ true) → (y ≡ true → x ≡ true) → x ≡ y
@@ -51,8 +53,8 @@ same_failing pa pb m wa wb s = by_duty (is_duty m.mark) refl
   where
     by_duty : (d : Bool) → is_duty m.mark ≡ d → failing pa m wa ≡ failing pb m wb
     by_duty true d = find-same _ _ all_rules (λ r. ap not (same_test _ _
-        (holds-as_good s.clock s.clock pb pa wb wa m.mark m.kind d (as_good-itself s.clock) s.second s.first r)
-        (holds-as_good s.clock s.clock pa pb wa wb m.mark m.kind d (as_good-itself s.clock) s.first s.second r)))
+        (holds-by_room s.clock s.clock pb pa wb wa m.mark m.kind d s.second s.first r (omega arith))
+        (holds-by_room s.clock s.clock pa pb wa wb m.mark m.kind d s.first s.second r (omega arith))))
     by_duty false d = off_fine pa m.mark m.kind wa (off_mark m.mark d) ∙ sym (off_fine pb m.mark m.kind wb (off_mark m.mark d))
 
 same_next : (pa pb : Past) (m : Minute) (wa wb : Minutes) → SameClock pa pb wa wb → SameClock pa pb (m ∷ wa) (m ∷ wb)

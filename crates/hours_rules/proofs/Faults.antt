@@ -8,7 +8,7 @@ use Rattle.minute_line.specs.Minutes.{Minute, Minutes, stretch}
 use Rattle.hours_rules.specs.declared.clocks.Clock.{Clock}
 use Rattle.hours_rules.specs.declared.rules.Broken.{Broken}
 use Rattle.hours_rules.specs.declared.rules.Rule.{Rule}
-use Rattle.hours_rules.specs.declared.rules.Rule.TheVariants.{H1, H2, H3, H4, H5, H6, H7, H8, H9, H10, H11}
+use Rattle.hours_rules.specs.declared.rules.Rule.TheVariants.{H1, H2, H3, H4, H5, H6, H7, H8, H9, H10, H11, H12}
 use Rattle.minute_line.specs.Marks.{is_duty}
 use Rattle.hours_rules.specs.Rules.{Past, holds, failing, first_of_two, all_rules, fault_from}
 use Rattle.hours_rules.specs.Standing.{Stands}
@@ -71,6 +71,7 @@ least_room-le f n H8 = least_room-nth f n all_rules 7 H8 refl
 least_room-le f n H9 = least_room-nth f n all_rules 8 H9 refl
 least_room-le f n H10 = least_room-nth f n all_rules 9 H10 refl
 least_room-le f n H11 = least_room-nth f n all_rules 10 H11 refl
+least_room-le f n H12 = least_room-nth f n all_rules 11 H12 refl
 
 pub least_room-at_most : (f : Rule → ℕ) (n : ℕ) (rs : List Rule) → least_room f n rs ≤ n
 least_room-at_most f n [] = omega arith
@@ -223,3 +224,4 @@ all-hold p m w h H8 = not-false _ (none-nth (λ r. not (holds p m w r)) all_rule
 all-hold p m w h H9 = not-false _ (none-nth (λ r. not (holds p m w r)) all_rules 8 H9 refl h)
 all-hold p m w h H10 = not-false _ (none-nth (λ r. not (holds p m w r)) all_rules 9 H10 refl h)
 all-hold p m w h H11 = not-false _ (none-nth (λ r. not (holds p m w r)) all_rules 10 H11 refl h)
+all-hold p m w h H12 = not-false _ (none-nth (λ r. not (holds p m w r)) all_rules 11 H12 refl h)

@@ -1,10 +1,14 @@
 -- A history keeps its bounds.
 use Rattle.std.proofs.Common.{ℕ, ◌≡◌, ◌≤◌, ◌+◌, ◌*◌, true, sum, List, [], ◌∷◌, length, arith}
+use Rattle.std.proofs.lemmas.Int.{ints}
 use Rattle.std.proofs.Math.Nat.{mul-suc}
 use Rattle.std.proofs.lemmas.List.Sums.{sum_by-cons}
 use Rattle.minute_line.specs.declared.lines.History.{History}
 use Rattle.minute_line.specs.Minutes.{total_of}
 use Rattle.minute_line.specs.Stints.{all_up_to}
+use Rattle.minute_line.specs.Histories.{fields_of}
+use Rattle.hours_rules.specs.Standing.{IsCarried}
+use Rattle.hours_rules.specs.Verdicts.{debt_from}
 
 -- what a history's bounds come to
 pub record IsHistory (h : History) : Type 0 where
@@ -29,3 +33,6 @@ is_history h = record {
   prev_drive = h.drive;
   work16 = omega (arith, sum-all_up_to 10080 h.work16 h.weeks, h.sixteen);
 }
+
+pub carried : (h : History) → IsCarried (debt_from (fields_of h))
+carried h = let small = h.deadline in record { owed = h.debt; not_before = omega (arith, ints); due = omega (arith, ints) }

@@ -9,7 +9,7 @@ use Rattle.minute_line.specs.declared.marks.Kind.TheVariants.{Plain}
 use Rattle.minute_line.specs.Marks.{is_working, is_drive}
 use Rattle.hours_rules.specs.declared.clocks.Clock.{Clock}
 use Rattle.hours_rules.specs.declared.rules.Rule.{Rule}
-use Rattle.hours_rules.specs.declared.rules.Rule.TheVariants.{H1, H2, H3, H4, H5, H6, H7, H8, H9, H10, H11}
+use Rattle.hours_rules.specs.declared.rules.Rule.TheVariants.{H1, H2, H3, H4, H5, H6, H7, H8, H9, H10, H11, H12}
 use Rattle.hours_rules.specs.Machine.{room, least_room, fault_after, IsDutyRoom, work_room, drive_room}
 use Rattle.hours_rules.specs.Rules.{all_rules}
 use Rattle.hours_rules.proofs.Faults.{least_room-le, least_room-at_most}
@@ -66,6 +66,7 @@ record Within (f : Rule → ℕ) (k : ℕ) : Type 0 where
   h9 : k ≤ f H9
   h10 : k ≤ f H10
   h11 : k ≤ f H11
+  h12 : k ≤ f H12
 
 each : (f : Rule → ℕ) (k : ℕ) → Within f k → (r : Rule) → k ≤ f r
 each f k w H1 = w.h1
@@ -79,6 +80,7 @@ each f k w H8 = w.h8
 each f k w H9 = w.h9
 each f k w H10 = w.h10
 each f k w H11 = w.h11
+each f k w H12 = w.h12
 
 -- the least room is no more than that of the rules that are judged at each on-duty minute
 below_duty : (c e : Clock) (mark : Mark) (kind : Kind) (n d : ℕ) → n ≤ 20000 → IsDutyRoom c e kind d →
@@ -86,14 +88,15 @@ below_duty : (c e : Clock) (mark : Mark) (kind : Kind) (n d : ℕ) → n ≤ 200
 below_duty c e mark kind n d s r =
     let f = room c e mark kind in
     let top = least_room-at_most f n all_rules in
-    le-min top ((r (least_room f n all_rules) (trans top s)).1 (least_room-le f n H3, least_room-le f n H4, least_room-le f n H5, least_room-le f n H6))
+    le-min top ((r (least_room f n all_rules) (trans top s)).1 (least_room-le f n H3, least_room-le f n H4, least_room-le f n H5, least_room-le f n H6, least_room-le f n H12))
 
 -- and that is no more than the room by each of them
 within_duty : (c e : Clock) (kind : Kind) (n d k : ℕ) → n ≤ 20000 → IsDutyRoom c e kind d → k ≤ min n d →
     (k ≤ 20000) × (k ≤ room c e Ready kind H3) × (k ≤ room c e Ready kind H4) × (k ≤ room c e Ready kind H5) × (k ≤ room c e Ready kind H6)
+    × (k ≤ room c e Ready kind H12)
 within_duty c e kind n d k s r h =
     let small : k ≤ 20000 = trans (trans h (min-le_left n d)) s in
-    let four = (r k small).0 (trans h (min-le_right n d)) in (small, four.0, four.1, four.2, four.3)
+    let five = (r k small).0 (trans h (min-le_right n d)) in (small, five.0, five.1, five.2, five.3, five.4)
 
 pub least_duty : (c e : Clock) (mark : Mark) (kind : Kind) (n d : ℕ) → is_working mark ≡ false → n ≤ 20000 →
     IsDutyRoom c e kind d → min n d ≡ least_room (room c e mark kind) n all_rules
@@ -103,13 +106,13 @@ least_duty c e Ready kind n d h s r =
     let k = min n d in
     let w = within_duty c e kind n d k s r (omega arith) in
     least_is (room c e Ready kind) n k (min-le_left n d)
-    (each (room c e Ready kind) k (record { h1 = w.0; h2 = w.0; h3 = w.1; h4 = w.2; h5 = w.3; h6 = w.4; h7 = w.0; h8 = w.0; h9 = w.0; h10 = w.0; h11 = w.0 }))
+    (each (room c e Ready kind) k (record { h1 = w.0; h2 = w.0; h3 = w.1; h4 = w.2; h5 = w.3; h6 = w.4; h7 = w.0; h8 = w.0; h9 = w.0; h10 = w.0; h11 = w.0; h12 = w.5 }))
     (below_duty c e Ready kind n d s r)
 least_duty c e Off kind n d h s r =
     let k = min n d in
     let w = within_duty c e kind n d k s r (omega arith) in
     least_is (room c e Off kind) n k (min-le_left n d)
-    (each (room c e Off kind) k (record { h1 = w.0; h2 = w.0; h3 = w.1; h4 = w.2; h5 = w.3; h6 = w.4; h7 = w.0; h8 = w.0; h9 = w.0; h10 = w.0; h11 = w.0 }))
+    (each (room c e Off kind) k (record { h1 = w.0; h2 = w.0; h3 = w.1; h4 = w.2; h5 = w.3; h6 = w.4; h7 = w.0; h8 = w.0; h9 = w.0; h10 = w.0; h11 = w.0; h12 = w.5 }))
     (below_duty c e Off kind n d s r)
 
 below_work : (c e : Clock) (mark : Mark) (kind : Kind) (n : ℕ) → is_working mark ≡ true →
@@ -144,7 +147,7 @@ least_work c e Work kind n d h g s r =
     let w = within_duty c e kind n d k s r low in
     let v = within_work e k (min-le_right (min n d) (work_room e)) in
     least_is (room c e Work kind) n k (trans low (min-le_left n d))
-    (each (room c e Work kind) k (record { h1 = w.0; h2 = w.0; h3 = w.1; h4 = w.2; h5 = w.3; h6 = w.4; h7 = w.0; h8 = w.0; h9 = v.0; h10 = v.1; h11 = v.2 }))
+    (each (room c e Work kind) k (record { h1 = w.0; h2 = w.0; h3 = w.1; h4 = w.2; h5 = w.3; h6 = w.4; h7 = w.0; h8 = w.0; h9 = v.0; h10 = v.1; h11 = v.2; h12 = w.5 }))
     (le-min (below_duty c e Work kind n d s r) (below_work c e Work kind n h))
 
 pub least_drive : (c e : Clock) (mark : Mark) (kind : Kind) (n d : ℕ) → is_drive mark ≡ true → n ≤ 20000 →
@@ -161,6 +164,6 @@ least_drive c e Drive kind n d h s r =
     let v = within_work e k (trans most (min-le_right (min n d) (work_room e))) in
     let u = within_drive e k (min-le_right (min (min n d) (work_room e)) (drive_room e)) in
     least_is f n k (trans low (min-le_left n d))
-    (each f k (record { h1 = u.0; h2 = u.1; h3 = w.1; h4 = w.2; h5 = w.3; h6 = w.4; h7 = u.2; h8 = u.3; h9 = v.0; h10 = v.1; h11 = v.2 }))
+    (each f k (record { h1 = u.0; h2 = u.1; h3 = w.1; h4 = w.2; h5 = w.3; h6 = w.4; h7 = u.2; h8 = u.3; h9 = v.0; h10 = v.1; h11 = v.2; h12 = w.5 }))
     (le-min (le-min (below_duty c e Drive kind n d s r) (below_work c e Drive kind n refl))
     (le-min (le-min (le-min (least_room-le f n H1) (least_room-le f n H2)) (least_room-le f n H7)) (least_room-le f n H8)))

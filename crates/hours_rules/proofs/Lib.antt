@@ -1,13 +1,18 @@
+pub mod JoinedTests
 pub mod Spans
+pub mod Debts
 pub mod Steps
 pub mod Blocks
 pub mod Rooms
 pub mod Faults
+pub mod Owing
 pub mod Better
 pub mod Same
+pub mod LineClocks
 pub mod Least
 pub mod Histories
 pub mod Within
+pub mod DebtSizes
 pub mod Sizes
 pub mod Stints
 pub mod Starts
@@ -18,5 +23,5 @@ pub mod Longer
 pub mod Sooner
 pub mod Determined
 pub mod Periods
-pub mod WorkDays
+pub mod Beginnings
 pub mod Verdicts

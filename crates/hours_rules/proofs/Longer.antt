@@ -1,18 +1,19 @@
 -- A longer rest is as good: what lets Ready minutes before a rest become Off minutes of it.
-use Rattle.std.proofs.Common.{◌≡◌, ℕ, ◌≤◌, Bool, true, cond, refl, arith, pos, ℤ, ◌-ℤ◌, ◌≤ℤ◌, int_lt}
+use Rattle.std.proofs.Common.{◌≡◌, ℕ, ◌≤◌, Bool, true, false, cond, refl, arith, pos, ℤ, ◌-ℤ◌, ◌≤ℤ◌, int_lt}
 use Rattle.std.proofs.lemmas.Bool.Decides.{nat_tests}
 use Rattle.std.proofs.lemmas.Int.{ints}
 use Rattle.minute_line.specs.declared.marks.Kind.{Kind}
 use Rattle.hours_rules.specs.declared.clocks.Clock.{Clock}
 use Rattle.minute_line.specs.Marks.{is_rest}
-use Rattle.hours_rules.specs.Order.{IsAsGood}
-use Rattle.hours_rules.specs.Machine.{run_ended, reduced_here}
+use Rattle.hours_rules.specs.Order.{DominatesAtMinute}
+use Rattle.hours_rules.specs.Machine.{run_ended, reduced_here, short_here}
+use Rattle.hours_rules.proofs.Owing.{leaves-less}
 
 offset_less : (at k l : ℕ) (x y : ℤ) → y ≤ℤ x → l ≤ k → int_lt (pos 780) ((pos at -ℤ x) -ℤ pos k) ≡ true →
     int_lt (pos 780) ((pos at -ℤ y) -ℤ pos l) ≡ true
 offset_less at k l x y g m h = grind (arith, ints)
 
-reduced_longer : (a b : Clock) (kind : Kind) → b.off ≤ a.off → 1 ≤ b.off → IsAsGood (record a { off = b.off }) b →
+reduced_longer : (a b : Clock) (kind : Kind) → b.off ≤ a.off → 1 ≤ b.off → DominatesAtMinute (record a { off = b.off }) b →
     reduced_here a kind ≡ true → reduced_here b kind ≡ true
 reduced_longer a b kind l m g h =
     let o = offset_less b.at a.off b.off a.day_from b.day_from g.day_from l in
@@ -22,13 +23,21 @@ reduced_longer a b kind l m g h =
 one_if : (x y : Bool) → (x ≡ true → y ≡ true) → cond x 1 0 ≤ cond y 1 0
 one_if x y h = grind (arith, h)
 
-pub longer-rest : (a b : Clock) (kind : Kind) → is_rest kind ≡ true → b.off ≤ a.off → 45 ≤ b.off →
-    IsAsGood (record a { off = b.off }) b → IsAsGood (run_ended a kind) (run_ended b kind)
-longer-rest a b kind r l m g = record {
+longer-day : (a b : Clock) (kind : Kind) → b.off ≤ a.off → 45 ≤ b.off → DominatesAtMinute (record a { off = b.off }) b →
+    (run_ended b kind).day_from ≤ℤ (run_ended a kind).day_from
+longer-day a b kind l m g = let e = g.at in grind (arith, ints)
+
+longer-week : (a b : Clock) (kind : Kind) → b.off ≤ a.off → 45 ≤ b.off → DominatesAtMinute (record a { off = b.off }) b →
+    (run_ended b kind).rest_from ≤ℤ (run_ended a kind).rest_from
+longer-week a b kind l m g = let e = g.at in let f = g.rest_from in grind (arith, ints)
+
+pub longer-rest : (a b : Clock) (kind : Kind) → is_rest kind ≡ true → short_here b kind ≡ false → b.off ≤ a.off → 45 ≤ b.off →
+    DominatesAtMinute (record a { off = b.off }) b → DominatesAtMinute (run_ended a kind) (run_ended b kind)
+longer-rest a b kind r long l m g = let less = leaves-less a b kind g.at l (λ h. omega arith) long (record { owed = g.owed; due = g.due }) in record {
   at = g.at;
   off = refl;
-  day_from = let e = g.at in grind (arith, ints);
-  rest_from = let e = g.at in let f = g.rest_from in grind (arith, ints);
+  day_from = longer-day a b kind l m g;
+  rest_from = longer-week a b kind l m g;
   period = grind (arith, nat_tests);
   half = grind (arith, nat_tests);
   drive_day = grind (arith, nat_tests);
@@ -43,4 +52,6 @@ longer-rest a b kind r l m g = record {
   work_week = g.work_week;
   prev_drive = g.prev_drive;
   work_before = g.work_before;
+  owed = less.owed;
+  due = less.due;
 }

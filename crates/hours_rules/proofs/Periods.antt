@@ -55,10 +55,11 @@ has_part (m ∷ (x ∷ more)) line n d e h =
     rw (d.0, open_run-between (x ∷ more) line d.1, has_part (x ∷ more) line n d.1 e h) refl
 
 pub fifteen_thirty : FifteenThenThirtyEnds
-fifteen_thirty before between first second m e low high d long duty =
+fifteen_thirty before between first second m e low high none d long duty =
     let line = stretch first Off Plain before in
     let runs : open_run line ≡ first = open_run-stretch first Plain before e in
-    let one : period_of (between ++ line) ≡ between ++ period_of line = goes_on between line first d runs (omega arith) (λ g. absurd (omega arith)) in
+    let one : period_of (between ++ line) ≡ between ++ period_of line = goes_on between line first d runs high
+    (λ g. rw (period_of-off first Plain before, has_run-off 15 first Plain (period_of before)) (none g)) in
     let part : has_run 15 (period_of (between ++ line)) ≡ true =
     rw one (has_part between (period_of line) first d (open_run-period_of line ∙ runs) low) in
     let all = stretch second Off Plain (between ++ line) in

@@ -1,5 +1,5 @@
 -- A rule holds at the minutes that its room allows, and fails at the next.
-use Rattle.std.proofs.Common.{◌≡◌, ℕ, ◌+◌, ◌-◌, ◌≤◌, ◌<◌, Bool, true, false, cond, not, ◌&&◌, ◌||◌, leb, ltb, length, refl, sym, arith, pos, ℤ, ◌-ℤ◌, min, suc, zero, le-leb}
+use Rattle.std.proofs.Common.{◌≡◌, ℕ, ◌+◌, ◌-◌, ◌≤◌, ◌<◌, Bool, true, false, cond, not, ◌&&◌, ◌||◌, eqb, leb, ltb, length, refl, sym, arith, pos, ℤ, ◌-ℤ◌, min, suc, zero, le-leb, int_le}
 use Rattle.std.proofs.lemmas.Bool.{lt-leb, or_right}
 use Rattle.std.proofs.lemmas.Bool.Decides.{nat_tests}
 use Rattle.std.proofs.lemmas.Int.{ints}
@@ -8,7 +8,7 @@ use Rattle.minute_line.specs.declared.marks.Kind.{Kind}
 use Rattle.minute_line.specs.Minutes.{Minutes, stretch}
 use Rattle.hours_rules.specs.declared.clocks.Clock.{Clock}
 use Rattle.hours_rules.specs.declared.rules.Rule.{Rule}
-use Rattle.hours_rules.specs.declared.rules.Rule.TheVariants.{H1, H2, H3, H4, H5, H6, H7, H8, H9, H10, H11}
+use Rattle.hours_rules.specs.declared.rules.Rule.TheVariants.{H1, H2, H3, H4, H5, H6, H7, H8, H9, H10, H11, H12}
 use Rattle.minute_line.specs.Marks.{is_duty}
 use Rattle.hours_rules.specs.Counts.{work_day_of, since_weekly}
 use Rattle.hours_rules.specs.Rules.{Past, whole, holds}
@@ -44,6 +44,24 @@ too_short duty off run least j d e h l = grind (arith, nat_tests)
 one_or_none : (b : Bool) (j : ℕ) → cond b 0 20000 ≡ j → 0 < j → j < 20000 → ⊥
 one_or_none true j h k l = omega arith
 one_or_none false j h k l = omega arith
+
+-- the time that is left to pay a debt
+in_time : (duty : Bool) (at j len owed debt : ℕ) (due end : ℤ) → at + suc j ≡ len → owed ≡ debt → due ≡ end →
+    j < cond (ltb 0 owed) (min 20000 (left_until 0 (due -ℤ pos (660 + owed)) at)) 20000 →
+    (not duty || (eqb debt 0 || int_le (pos (len + 660 + debt)) end)) ≡ true
+in_time duty at j len zero debt due end e f g h = rw (← f) (or_right (not duty) _ refl)
+in_time duty at j len (suc k) debt due end e f g h =
+    let l : int_le (pos (len + 660 + suc k)) due ≡ true = grind (arith, ints) in
+    rw (← f, ← g, l) (or_right (not duty) _ (or_right _ _ refl))
+
+too_late : (duty : Bool) (at j len owed debt : ℕ) (due end : ℤ) → duty ≡ true → at + suc j ≡ len → owed ≡ debt → due ≡ end →
+    cond (ltb 0 owed) (min 20000 (left_until 0 (due -ℤ pos (660 + owed)) at)) 20000 ≡ j → j < 20000 →
+    (not duty || (eqb debt 0 || int_le (pos (len + 660 + debt)) end)) ≡ false
+too_late duty at j len zero debt due end d e f g h l = absurd (omega arith)
+too_late duty at j len (suc k) debt due end d e f g h l =
+    let late : int_le (pos (len + 660 + suc k)) due ≡ false = grind (arith, ints) in
+    let some : eqb (suc k) 0 ≡ false = grind (arith, nat_tests) in
+    rw (d, ← f, ← g, some, late) refl
 
 -- the pauses of the work day
 paused : (working : Bool) (worked had j pause off : ℕ) → worked ≡ cond working (suc j) 0 + had → pause ≡ min 45 off →
@@ -87,7 +105,7 @@ holds-within c past j mark kind week d s H2 h = let t = stands-block c past j ma
 holds-within c past j mark kind week d s H3 h = let t = stands-block c past j mark kind week d s in
     left_within (is_duty mark) _ _ _ _ (length (work_day_of (whole past (stretch (suc j) mark kind week)))) _ t.at t.day_from h
 holds-within c past j mark kind week d s H4 h = let t = stands-block c past j mark kind week d s in at_most _ _ _ _ _ t.reduced h
-holds-within c past zero mark kind week d s H5 h = rw (← s.prev_weekly) (long_enough _ _ _ _ 0 s.off h)
+holds-within c past zero mark kind week d s H5 h = rw (← s.prev_weekly, ← s.owed) (long_enough _ _ _ _ 0 s.off h)
 holds-within c past (suc j) mark kind week d s H5 h = rw d refl
 holds-within c past j mark kind week d s H6 h = let t = stands-block c past j mark kind week d s in
     left_within (is_duty mark) _ _ _ _ (length (since_weekly (whole past (stretch (suc j) mark kind week)))) _ t.at t.rest_from h
@@ -99,6 +117,8 @@ holds-within c past j mark kind week d s H9 h = let t = stands-block c past j ma
 holds-within c past j mark kind week d s H10 h = let t = stands-block c past j mark kind week d s in within _ _ _ _ _ (sym t.work_run) h
 holds-within c past j mark kind week d s H11 h = let t = stands-block c past j mark kind week d s in
     paused _ _ _ _ _ _ (sym t.work_day) t.pause_day h
+holds-within c past j mark kind week d s H12 h = let t = stands-block c past j mark kind week d s in
+    in_time _ _ _ _ _ _ _ _ t.at t.owed t.due h
 
 pub fails-past : (c : Clock) (past : Past) (j : ℕ) (mark : Mark) (kind : Kind) (week : Minutes) → is_duty mark ≡ true →
     Stands c past week → (r : Rule) → room c (run_ended c kind) mark kind r ≡ j → j < 20000 →
@@ -109,7 +129,7 @@ fails-past c past j mark kind week d s H2 h l = let t = stands-block c past j ma
 fails-past c past j mark kind week d s H3 h l = let t = stands-block c past j mark kind week d s in
     left_past (is_duty mark) _ _ _ _ (length (work_day_of (whole past (stretch (suc j) mark kind week)))) _ d t.at t.day_from h
 fails-past c past j mark kind week d s H4 h l = let t = stands-block c past j mark kind week d s in past_most _ _ _ _ _ d t.reduced h l
-fails-past c past zero mark kind week d s H5 h l = rw (← s.prev_weekly) (too_short (is_duty mark) _ _ _ 0 d s.off h l)
+fails-past c past zero mark kind week d s H5 h l = rw (← s.prev_weekly, ← s.owed) (too_short (is_duty mark) _ _ _ 0 d s.off h l)
 fails-past c past (suc j) mark kind week d s H5 h l = absurd (one_or_none _ (suc j) h (omega arith) l)
 fails-past c past j mark kind week d s H6 h l = let t = stands-block c past j mark kind week d s in
     left_past (is_duty mark) _ _ _ _ (length (since_weekly (whole past (stretch (suc j) mark kind week)))) _ d t.at t.rest_from h
@@ -121,3 +141,5 @@ fails-past c past j mark kind week d s H9 h l = let t = stands-block c past j ma
 fails-past c past j mark kind week d s H10 h l = let t = stands-block c past j mark kind week d s in past_limit _ _ _ _ _ (sym t.work_run) h l
 fails-past c past j mark kind week d s H11 h l = let t = stands-block c past j mark kind week d s in
     unpaused _ _ _ _ _ _ (sym t.work_day) t.pause_day h l
+fails-past c past j mark kind week d s H12 h l = let t = stands-block c past j mark kind week d s in
+    too_late _ _ _ _ _ _ _ _ d t.at t.owed t.due h l

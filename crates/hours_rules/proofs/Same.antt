@@ -21,6 +21,8 @@ pub record SameFields (x y : Clock) : Type 0 where
   pub work_week : x.work_week ≡ y.work_week
   pub prev_drive : x.prev_drive ≡ y.prev_drive
   pub work_before : x.work_before ≡ y.work_before
+  pub owed : x.owed ≡ y.owed
+  pub due : x.due ≡ y.due
 
 pub clock_ext : (x y : Clock) → SameFields x y → x ≡ y
-clock_ext x y s = λ i. record { at = s.at i; off = s.off i; day_from = s.day_from i; rest_from = s.rest_from i; period = s.period i; half = s.half i; drive_day = s.drive_day i; long_days = s.long_days i; split = s.split i; reduced = s.reduced i; prev_weekly = s.prev_weekly i; work_run = s.work_run i; work_day = s.work_day i; pause_day = s.pause_day i; drive_week = s.drive_week i; work_week = s.work_week i; prev_drive = s.prev_drive i; work_before = s.work_before i }
+clock_ext x y s = λ i. record { at = s.at i; off = s.off i; day_from = s.day_from i; rest_from = s.rest_from i; period = s.period i; half = s.half i; drive_day = s.drive_day i; long_days = s.long_days i; split = s.split i; reduced = s.reduced i; prev_weekly = s.prev_weekly i; work_run = s.work_run i; work_day = s.work_day i; pause_day = s.pause_day i; drive_week = s.drive_week i; work_week = s.work_week i; prev_drive = s.prev_drive i; work_before = s.work_before i; owed = s.owed i; due = s.due i }

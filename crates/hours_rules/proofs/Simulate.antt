@@ -7,12 +7,13 @@ use Rattle.minute_line.specs.declared.marks.Kind.{Kind}
 use Rattle.minute_line.specs.Minutes.{Minute, Minutes}
 use Rattle.hours_rules.specs.declared.rules.Broken.{Broken}
 use Rattle.hours_rules.specs.declared.rules.Rule.{Rule}
+use Rattle.hours_rules.specs.declared.rules.Rule.TheVariants.{H5}
 use Rattle.minute_line.specs.Marks.{is_duty}
 use Rattle.hours_rules.specs.Rules.{Past, failing, fault_from, first_of_two, all_rules, holds}
 use Rattle.hours_rules.specs.Order.{Together}
 use Rattle.hours_rules.specs.Machine.{run_ended, ticked, rested}
 use Rattle.hours_rules.proofs.Steps.{stands-duty, stands-off}
-use Rattle.hours_rules.proofs.Better.{holds-as_good, ended-as_good, ticked-as_good, rested-as_good}
+use Rattle.hours_rules.proofs.Better.{holds-by_room, room-as_good, not_short, ended-as_good, ticked-as_good, rested-as_good}
 use Rattle.hours_rules.proofs.Faults.{find-none, all-hold, none_judged}
 
 pub off_mark : (mark : Mark) → is_duty mark ≡ false → mark ≡ Off
@@ -49,15 +50,16 @@ one_more : (pa pb : Past) (m : Minute) (wa wb : Minutes) → Together pa pb wa w
 one_more pa pb m wa wb t h = by_duty (is_duty m.mark) refl
   where
     by_duty : (d : Bool) → is_duty m.mark ≡ d → Together pa pb (m ∷ wa) (m ∷ wb) × (failing pa m wa ≡ None)
-    by_duty true d = (
+    by_duty true d = let long = not_short t.second pb wb m.mark m.kind d t.second_stands (all-hold pb m wb h H5) in (
       record {
         first = ticked (run_ended t.first m.kind) m.mark 1;
         second = ticked (run_ended t.second m.kind) m.mark 1;
-        as_good = ticked-as_good _ _ m.mark 1 (ended-as_good _ _ m.kind t.as_good);
+        as_good = ticked-as_good _ _ m.mark 1 (ended-as_good _ _ m.kind long t.as_good);
         first_stands = stands-duty t.first pa m wa d t.first_stands;
         second_stands = stands-duty t.second pb m wb d t.second_stands;
       },
-      find-none _ all_rules (λ r. ap not (holds-as_good t.first t.second pa pb wa wb m.mark m.kind d t.as_good t.first_stands t.second_stands r
+      find-none _ all_rules (λ r. ap not (holds-by_room t.first t.second pa pb wa wb m.mark m.kind d t.first_stands t.second_stands r
+          (room-as_good t.first t.second m.mark m.kind long t.as_good r)
           (all-hold pb m wb h r))),
     )
     by_duty false d = (
@@ -81,9 +83,14 @@ simulate_minutes pa pb wa wb (m ∷ more) t h =
     let next = one_more pa pb m (more ++ wa) (more ++ wb) before.0 parts.1 in
     (next.0, judged_join (length wa) pa m (more ++ wa) (omega (arith, length-append more wa)) before.1 next.1)
 
--- a line without a fault obeys each rule at each minute of the week
+-- a line without a fault from a minute on obeys each rule at each minute from there on
+pub every-minute_from : (from : ℕ) (past : Past) (later : Minutes) (m : Minute) (earlier : Minutes) → from ≤ length earlier →
+    fault_from from past (later ++ m ∷ earlier) ≡ None → (r : Rule) → holds past m earlier r ≡ true
+every-minute_from from past [] m earlier l h r = all-hold past m earlier (judged_parts from past m earlier l h).1 r
+every-minute_from from past (x ∷ later) m earlier l h r =
+    every-minute_from from past later m earlier l
+    (judged_parts from past x (later ++ m ∷ earlier) (omega (arith, length-append later (m ∷ earlier))) h).0 r
+
 pub every-minute : (past : Past) (later : Minutes) (m : Minute) (earlier : Minutes) →
     fault_from 0 past (later ++ m ∷ earlier) ≡ None → (r : Rule) → holds past m earlier r ≡ true
-every-minute past [] m earlier h r = all-hold past m earlier (judged_parts 0 past m earlier (omega arith) h).1 r
-every-minute past (x ∷ later) m earlier h r =
-    every-minute past later m earlier (judged_parts 0 past x (later ++ m ∷ earlier) (omega arith) h).0 r
+every-minute past later m earlier h r = every-minute_from 0 past later m earlier (omega arith) h r

@@ -7,9 +7,10 @@ use Rattle.hours_rules.specs.declared.clocks.Clock.{Clock}
 use Rattle.minute_line.specs.Marks.{is_drive, is_working}
 use Rattle.hours_rules.specs.Counts.{count, since, period_of, times, work_day_of, since_weekly, since_pause, ends_rest, ends_weekly, ends_run, ends_reduced}
 use Rattle.hours_rules.specs.Rules.{Past, whole, long_days_of}
-use Rattle.hours_rules.specs.Standing.{Stands}
+use Rattle.hours_rules.specs.Standing.{Stands, IsCarried}
 use Rattle.hours_rules.specs.Bounds.{IsWithin}
 use Rattle.hours_rules.proofs.Spans.{open_run-length}
+use Rattle.hours_rules.proofs.DebtSizes.{debt-within}
 
 count-length : (test : Mark → Bool) (line : Minutes) → count test line ≤ length line
 count-length test [] = omega arith
@@ -32,9 +33,10 @@ long_days_of-length past [] = omega arith
 long_days_of-length past (m ∷ week) = grind (arith, long_days_of-length past week)
 
 pub within-stands : (n : ℕ) (c : Clock) (past : Past) (week : Minutes) → Stands c past week → length week + length past.minutes ≤ n →
-    past.prev_drive ≤ 200000 → past.work_before ≤ 200000 → IsWithin n c
-within-stands n c past week s l p w =
-    let all : length (whole past week) ≤ n = omega (arith, length-append week past.minutes) in record {
+    past.prev_drive ≤ 200000 → past.work_before ≤ 200000 → IsCarried past.debt → IsWithin n c
+within-stands n c past week s l p w d =
+    let all : length (whole past week) ≤ n = omega (arith, length-append week past.minutes) in
+    let debt = debt-within n (length past.minutes) past.debt (whole past week) d (omega arith) all in record {
       at = omega (arith, s.at);
       off = omega (arith, s.off, open_run-length (whole past week));
       day_from = omega (arith, ints, s.day_from, s.at);
@@ -52,4 +54,7 @@ within-stands n c past week s l p w =
       work_week = omega (arith, s.work_week, count-length is_working week);
       prev_drive = omega (arith, s.prev_drive);
       work_before = omega (arith, s.work_before);
+      owed = omega (arith, s.owed, debt.owed);
+      due = rw s.due debt.due;
+      due_low = rw s.due debt.low;
     }

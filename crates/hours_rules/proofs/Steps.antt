@@ -9,6 +9,7 @@ use Rattle.hours_rules.specs.Counts.{open_run, ends_rest, ends_weekly, work_day_
 use Rattle.hours_rules.specs.Rules.{Past, whole}
 use Rattle.hours_rules.specs.Standing.{Stands}
 use Rattle.hours_rules.specs.Machine.{run_ended, ticked, rested, reduced_here}
+use Rattle.hours_rules.proofs.Debts.{owed-duty, due-duty, debt-off}
 use Rattle.hours_rules.proofs.Spans.{open_run-since, open_run-period_of, open_run-length, duty-ends_rest, duty-ends_weekly, work_day_of-since_weekly}
 
 -- where a span begins, counted from Monday, after one more minute
@@ -62,6 +63,8 @@ stands-duty c past m week d s = record {
   work_week = grind arith;
   prev_drive = grind arith;
   work_before = grind arith;
+  owed = owed-duty c past m week d s;
+  due = due-duty c past m week d s;
 }
 
 pub stands-off : (c : Clock) (past : Past) (m : Minute) (week : Minutes) → m.mark ≡ Off →
@@ -85,4 +88,6 @@ stands-off c past m week d s = record {
   work_week = grind arith;
   prev_drive = grind arith;
   work_before = grind arith;
+  owed = rw (debt-off past m week d) s.owed;
+  due = rw (debt-off past m week d) s.due;
 }

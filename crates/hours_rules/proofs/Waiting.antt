@@ -1,23 +1,34 @@
 -- Ready minutes bring the earlier line to the minute of the later one.
-use Rattle.std.proofs.Common.{◌≡◌, ℕ, ◌+◌, ◌≤◌, Bool, true, not, ◌||◌, ◌∷◌, leb, length, refl, sym, arith, suc, zero, ◌-◌, ◌∙◌, None, pos, ℤ, ◌-ℤ◌, ◌≤ℤ◌, le-leb}
+use Rattle.std.proofs.Common.{◌≡◌, ℕ, ◌+◌, ◌≤◌, Bool, true, not, ◌||◌, ◌∷◌, ◌<◌, eqb, leb, ltb, min, int_le, length, refl, sym, arith, suc, zero, ◌-◌, ◌∙◌, None, pos, ℤ, ◌-ℤ◌, ◌≤ℤ◌, le-leb}
 use Rattle.std.proofs.lemmas.Int.{ints}
 use Rattle.minute_line.specs.declared.marks.Mark.TheVariants.{Ready}
 use Rattle.minute_line.specs.declared.marks.Kind.TheVariants.{Plain}
 use Rattle.minute_line.specs.Minutes.{Minute, Minutes, stretch}
 use Rattle.hours_rules.specs.declared.clocks.Clock.{Clock}
 use Rattle.hours_rules.specs.declared.rules.Rule.{Rule}
-use Rattle.hours_rules.specs.declared.rules.Rule.TheVariants.{H1, H2, H3, H4, H5, H6, H7, H8, H9, H10, H11}
+use Rattle.hours_rules.specs.declared.rules.Rule.TheVariants.{H1, H2, H3, H4, H5, H6, H7, H8, H9, H10, H11, H12}
 use Rattle.std.proofs.lemmas.Bool.Decides.{nat_tests}
 use Rattle.minute_line.specs.Marks.{is_duty}
 use Rattle.hours_rules.specs.Counts.{work_day_of, since_weekly, times, ends_reduced}
-use Rattle.hours_rules.specs.Rules.{Past, fault_from, failing, whole}
+use Rattle.hours_rules.specs.Rules.{Past, fault_from, failing, whole, debt_of}
 use Rattle.hours_rules.specs.Standing.{Stands}
-use Rattle.hours_rules.specs.Order.{IsAsGood, Together, IsEarlier, IsRested, ReadyCatchesUp, LastKeepsLimits}
-use Rattle.hours_rules.specs.Machine.{run_ended, ticked, room, left_until}
+use Rattle.hours_rules.specs.Order.{DominatesAtMinute, Together, IsEarlier, IsRested, ReadyCatchesUp, LastKeepsLimits}
+use Rattle.hours_rules.specs.Machine.{run_ended, ticked, room, left_until, limit_if}
+use Rattle.hours_rules.proofs.Owing.{plain-owed, plain-due}
 use Rattle.hours_rules.proofs.Faults.{no_fault-within, allows-clock, block-stands, none_judged, all-hold}
 
 time_left : (limit at_a at_b k : ℕ) (x y : ℤ) → at_a + k ≡ at_b → y ≤ℤ x → (pos at_b -ℤ y) ≤ℤ pos limit → k ≤ left_until limit x at_a
 time_left limit at_a at_b k x y e h l = grind (arith, ints)
+
+-- a debt that can still be paid in time after the later clock leaves the minutes up to it
+time_to_pay : (at_a at_b k owed debt : ℕ) (due end : ℤ) → at_a + k ≡ at_b → k ≤ 20000 → owed ≤ debt → (0 < owed → end ≤ℤ due) →
+    (0 < debt → pos (at_b + 660 + debt) ≤ℤ end) → k ≤ limit_if (ltb 0 owed) (min 20000 (left_until 0 (due -ℤ pos (660 + owed)) at_a))
+time_to_pay at_a at_b k zero debt due end e s l d t = s
+time_to_pay at_a at_b k (suc n) debt due end e s l d t =
+    let late : end ≤ℤ due = d (omega arith) in
+    let enough : pos (at_b + 660 + debt) ≤ℤ end = t (omega arith) in
+    let less : k ≤ left_until 0 (due -ℤ pos (660 + suc n)) at_a = grind (arith, ints) in
+    let some : ltb 0 (suc n) ≡ true = grind (arith, nat_tests) in rw some (omega (arith, less))
 
 waiting_room : (a b : Clock) (k : ℕ) → IsEarlier a b → IsRested b → a.at + k ≡ b.at → k ≤ 20000 → (r : Rule) →
     k ≤ room a (run_ended a Plain) Ready Plain r
@@ -35,8 +46,10 @@ waiting_room a b k g t e s H8 = omega arith
 waiting_room a b k g t e s H9 = omega arith
 waiting_room a b k g t e s H10 = omega arith
 waiting_room a b k g t e s H11 = omega arith
+waiting_room a b k g t e s H12 =
+    rw (plain-owed a, plain-due a) (time_to_pay a.at b.at k a.owed b.owed a.due b.due e s g.as_good.owed g.as_good.due t.debt)
 
-waited-as_good : (a b : Clock) (k : ℕ) → IsEarlier a b → a.at + k ≡ b.at → b.pause_day ≤ 45 → IsAsGood (ticked (run_ended a Plain) Ready k) b
+waited-as_good : (a b : Clock) (k : ℕ) → IsEarlier a b → a.at + k ≡ b.at → b.pause_day ≤ 45 → DominatesAtMinute (ticked (run_ended a Plain) Ready k) b
 waited-as_good a b k g e small =
     let off = g.off in let h = g.as_good in record {
       at = e;
@@ -57,6 +70,8 @@ waited-as_good a b k g e small =
       work_week = let w = h.work_week in omega arith;
       prev_drive = h.prev_drive;
       work_before = h.work_before;
+      owed = rw (plain-owed a) h.owed;
+      due = λ some. rw (plain-due a) (h.due (rw (plain-owed a) at some));
     }
 
 pub waiting : (a b : Clock) (pa pb : Past) (wa wb : Minutes) (k : ℕ) → Stands a pa wa → Stands b pb wb → IsEarlier a b → IsRested b →
@@ -77,6 +92,15 @@ waiting a b pa pb wa wb k sa sb g t e s = (
 within_limit : (duty : Bool) (n limit : ℕ) → duty ≡ true → (not duty || leb n limit) ≡ true → n ≤ limit
 within_limit duty n limit d h = grind (arith, nat_tests)
 
+-- a debt can be paid in time after a minute at which the rule holds
+debt_limit : (duty : Bool) (n at debt owed : ℕ) (end due : ℤ) → duty ≡ true → at ≡ n → owed ≡ debt → due ≡ end →
+    (not duty || (eqb debt 0 || int_le (pos (n + 660 + debt)) end)) ≡ true → 0 < owed → pos (at + 660 + owed) ≤ℤ due
+debt_limit duty n at debt owed end due d e f g h some = by_owed debt f (rw d at h)
+  where
+    by_owed : (k : ℕ) → owed ≡ k → (eqb k 0 || int_le (pos (n + 660 + k)) end) ≡ true → pos (at + 660 + owed) ≤ℤ due
+    by_owed zero o t = absurd (omega arith)
+    by_owed (suc k) o t = let fits : int_le (pos (n + 660 + suc k)) end ≡ true = grind (arith, nat_tests) in rw (e, o, g) (grind (arith, ints))
+
 -- the limits at a clock whose last minute was on duty and broke no rule
 pub rested-last : (b : Clock) (p : Past) (m : Minute) (w : Minutes) → is_duty m.mark ≡ true → failing p m w ≡ None →
     Stands b p (m ∷ w) → IsRested b
@@ -87,6 +111,8 @@ rested-last b p m w d h s = record {
       omega (arith, ints, s.at, s.rest_from, l);
   reduced = let l = within_limit (is_duty m.mark) (times ends_reduced (since_weekly (whole p (m ∷ w)))) 3 d (all-hold p m w h H4) in
       omega (arith, s.reduced, l);
+  debt = debt_limit (is_duty m.mark) (length (m ∷ w)) b.at (debt_of p (m ∷ w)).owed b.owed (debt_of p (m ∷ w)).due b.due d s.at s.owed s.due
+      (all-hold p m w h H12);
 }
 
 -- the same from any earlier or equal minute
@@ -118,6 +144,8 @@ ready_catches_up a b pa pb wa wb sa sb g t small = by_wait (b.at - a.at) refl
           work_week = h.work_week;
           prev_drive = h.prev_drive;
           work_before = h.work_before;
+          owed = h.owed;
+          due = h.due;
         };
         first_stands = sa;
         second_stands = sb;

@@ -1,5 +1,5 @@
 -- How large the numbers of a clock may be. The contracts of the private functions cite this.
-use Rattle.std.specs.Prelude.{ℕ, ◌≤◌, pos, ◌+ℤ◌, ◌≤ℤ◌}
+use Rattle.std.specs.Prelude.{ℕ, ◌+◌, ◌≤◌, pos, ◌+ℤ◌, ◌≤ℤ◌}
 use Rattle.hours_rules.specs.declared.clocks.Clock.{Clock}
 
 -- each number is one that a line of at most n minutes can have
@@ -21,3 +21,6 @@ pub record IsWithin (n : ℕ) (c : Clock) : Type 0 where
   pub work_week : c.work_week ≤ n
   pub prev_drive : c.prev_drive ≤ 200000
   pub work_before : c.work_before ≤ 200000
+  pub owed : c.owed ≤ 2700
+  pub due : c.due ≤ℤ pos (n + 50400)
+  pub due_low : pos 0 ≤ℤ (c.due +ℤ pos n)

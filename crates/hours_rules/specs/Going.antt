@@ -13,15 +13,15 @@ use Rattle.hours_rules.specs.Standing.{Stands}
 
 -- the answer for a line: a clock stands for it and no rule fails from week minute `from` on, or this is the first
 -- fault from there
-abbrev pub Answers : ℕ → Past → Minutes → Result Clock Broken → Type 0
-Answers from past week answer =
+abbrev pub StandsOrBreaks : ℕ → Past → Minutes → Result Clock Broken → Type 0
+StandsOrBreaks from past week answer =
     MatchResult answer (λ clock. Stands clock past week × (fault_from from past week ≡ None))
     (λ broken. fault_from from past week ≡ Some broken)
 
 -- whatever line the clock stands for, this is the answer for the line with a block of minutes added
 abbrev pub AnswersBlock : Clock → Mark → Kind → ℕ → Result Clock Broken → Type 0
 AnswersBlock clock mark kind minutes answer = (from : ℕ) (past : Past) (week : Minutes) → Stands clock past week →
-    from ≤ length week → fault_from from past week ≡ None → Answers from past (stretch minutes mark kind week) answer
+    from ≤ length week → fault_from from past week ≡ None → StandsOrBreaks from past (stretch minutes mark kind week) answer
 
 -- the week with a stay, and then some minutes of an act
 abbrev pub with_stay : Stay → Mark → ℕ → Minutes → Minutes
@@ -32,4 +32,4 @@ with_stay stay mark minutes week =
 -- line with a stay and an act added
 abbrev pub AnswersStay : Clock → Stay → Mark → ℕ → Result Clock Broken → Type 0
 AnswersStay clock stay mark minutes answer = (from : ℕ) (past : Past) (week : Minutes) → Stands clock past week →
-    from ≤ length week → fault_from from past week ≡ None → Answers from past (with_stay stay mark minutes week) answer
+    from ≤ length week → fault_from from past week ≡ None → StandsOrBreaks from past (with_stay stay mark minutes week) answer

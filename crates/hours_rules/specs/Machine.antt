@@ -1,13 +1,14 @@
 -- How a clock moves on. The contracts of the private functions cite this; no public clause does.
-use Rattle.std.specs.Prelude.{ℕ, ◌+◌, ◌-◌, Bool, false, not, ◌&&◌, ◌||◌, nat_lt, nat_le, if◌then◌else◌, pos, ◌-ℤ◌, min, int_lt, nat_abs, ℤ, int_le, List, [], ◌∷◌, Option, None, find, option_map, ◌≤◌, ◌↔◌}
+use Rattle.std.specs.Prelude.{ℕ, ◌+◌, ◌-◌, Bool, false, not, ◌&&◌, ◌||◌, nat_eq, nat_lt, nat_le, if◌then◌else◌, pos, ◌-ℤ◌, min, int_lt, nat_abs, ℤ, int_le, List, [], ◌∷◌, Option, None, find, option_map, ◌≤◌, ◌↔◌}
 use Rattle.minute_line.specs.declared.marks.Mark.{Mark}
 use Rattle.minute_line.specs.declared.marks.Mark.TheVariants.{Drive, Work, Ready}
 use Rattle.minute_line.specs.declared.marks.Kind.{Kind}
 use Rattle.minute_line.specs.declared.marks.Kind.TheVariants.{Plain}
 use Rattle.hours_rules.specs.declared.clocks.Clock.{Clock}
 use Rattle.hours_rules.specs.declared.rules.Rule.{Rule}
-use Rattle.hours_rules.specs.declared.rules.Rule.TheVariants.{H1, H2, H3, H4, H5, H6, H7, H8, H9, H10, H11}
+use Rattle.hours_rules.specs.declared.rules.Rule.TheVariants.{H1, H2, H3, H4, H5, H6, H7, H8, H9, H10, H11, H12}
 use Rattle.hours_rules.specs.declared.rules.Broken.{Broken}
+use Rattle.hours_rules.specs.Debts.{third_week_end}
 use Rattle.hours_rules.specs.Rules.{least_rest, all_rules}
 use Rattle.minute_line.specs.Marks.{is_drive, is_working, is_daily, is_weekly, is_rest}
 
@@ -37,6 +38,19 @@ reduced_here c kind =
     daily_here c kind && (not c.split
     && (nat_lt c.off 660 || int_lt (pos 780) ((pos c.at -ℤ c.day_from) -ℤ pos c.off)))
 
+-- it ends as a rest that pays what is owed
+abbrev pub paying_here : Clock → Kind → Bool
+paying_here c kind =
+    (daily_here c kind && nat_le (660 + c.owed) c.off) || (weekly_here c kind && nat_le (2700 + c.owed) c.off)
+
+-- it ends as a reduced weekly rest where nothing is owed yet
+abbrev pub owing_here : Clock → Kind → Bool
+owing_here c kind = weekly_here c kind && (nat_lt c.off 2700 && nat_eq c.owed 0)
+
+-- it is too short for what it is declared to be
+abbrev pub short_here : Clock → Kind → Bool
+short_here c kind = nat_le 1 c.off && nat_lt c.off (least_rest kind c.prev_weekly c.owed)
+
 -- the clock once its open run, declared to be of this kind, has ended
 abbrev pub run_ended : Clock → Kind → Clock
 run_ended c kind = record c {
@@ -53,6 +67,10 @@ run_ended c kind = record c {
   work_run = if nat_le 15 c.off then 0 else c.work_run;
   work_day = if rest_here c kind then 0 else c.work_day;
   pause_day = if rest_here c kind then 0 else min 45 ((if nat_le 15 c.off then c.off else 0) + c.pause_day);
+  owed = if paying_here c kind then 0 else (if owing_here c kind then 2700 - c.off else c.owed);
+  due =
+      if paying_here c kind then pos 0
+      else (if owing_here c kind then third_week_end (pos c.at -ℤ pos 1) else c.due);
 }
 
 -- n minutes if the test holds
@@ -87,6 +105,10 @@ limit_if test limit = if test then limit else unlimited
 abbrev pub left_until : ℕ → ℤ → ℕ → ℕ
 left_until limit from at = if int_le ((pos at -ℤ from)) (pos limit) then nat_abs (pos limit -ℤ (pos at -ℤ from)) else 0
 
+-- how many minutes are left until the last one at which a rest that pays what is owed can begin
+abbrev pub debt_room : Clock → ℕ
+debt_room e = limit_if (nat_lt 0 e.owed) (min unlimited (left_until 0 (e.due -ℤ pos (660 + e.owed)) e.at))
+
 -- how many minutes of one on-duty mark may follow by a rule, where `c` is the clock before them and `e` the clock once
 -- its open run has ended
 abbrev pub room : Clock → Clock → Mark → Kind → Rule → ℕ
@@ -94,7 +116,7 @@ room c e mark kind H1 = limit_if (is_drive mark) (270 - e.period)
 room c e mark kind H2 = limit_if (is_drive mark) ((if nat_lt e.long_days 2 then 600 else 540) - e.drive_day)
 room c e mark kind H3 = left_until 900 e.day_from e.at
 room c e mark kind H4 = if nat_le e.reduced 3 then unlimited else 0
-room c e mark kind H5 = if nat_le 1 c.off && nat_lt c.off (least_rest kind c.prev_weekly) then 0 else unlimited
+room c e mark kind H5 = if short_here c kind then 0 else unlimited
 room c e mark kind H6 = left_until 8640 e.rest_from e.at
 room c e mark kind H7 = limit_if (is_drive mark) (3360 - e.drive_week)
 room c e mark kind H8 = limit_if (is_drive mark) (5400 - (e.drive_week + e.prev_drive))
@@ -102,6 +124,7 @@ room c e mark kind H9 = limit_if (is_working mark) (min (3600 - e.work_week) (48
 room c e mark kind H10 = limit_if (is_working mark) (360 - e.work_run)
 room c e mark kind H11 =
     limit_if (is_working mark && nat_lt e.pause_day 45) ((if nat_lt e.pause_day 30 then 360 else 540) - e.work_day)
+room c e mark kind H12 = debt_room e
 
 -- the least room by some rules, and at most n
 abbrev pub least_room : (Rule → ℕ) → ℕ → List Rule → ℕ
@@ -121,7 +144,8 @@ fault_within f at n =
 -- the room by the rules that are judged at each on-duty minute, as far as a block of minutes can tell
 abbrev pub IsDutyRoom : Clock → Clock → Kind → ℕ → Type 0
 IsDutyRoom c e kind least = (n : ℕ) → n ≤ unlimited → n ≤ least ↔
-    ((n ≤ room c e Ready kind H3) × (n ≤ room c e Ready kind H4) × (n ≤ room c e Ready kind H5) × (n ≤ room c e Ready kind H6))
+    ((n ≤ room c e Ready kind H3) × (n ≤ room c e Ready kind H4) × (n ≤ room c e Ready kind H5) × (n ≤ room c e Ready kind H6)
+    × (n ≤ room c e Ready kind H12))
 
 -- the room of working minutes by the rules on working time
 abbrev pub work_room : Clock → ℕ

@@ -1,5 +1,5 @@
 -- When one clock is at least as good as another.
-use Rattle.std.specs.Prelude.{◌≡◌, ◌≤◌, true, ◌≤ℤ◌, length, ◌++◌, None, pos, ◌-ℤ◌, ◌-◌, ◌∷◌}
+use Rattle.std.specs.Prelude.{◌≡◌, ◌≤◌, ◌<◌, ◌+◌, true, ◌≤ℤ◌, length, ◌++◌, None, pos, ◌-ℤ◌, ◌-◌, ◌∷◌}
 use Rattle.minute_line.specs.declared.marks.Mark.TheVariants.{Ready}
 use Rattle.minute_line.specs.declared.marks.Kind.TheVariants.{Plain}
 use Rattle.minute_line.specs.Marks.{is_duty}
@@ -8,8 +8,9 @@ use Rattle.hours_rules.specs.declared.clocks.Clock.{Clock}
 use Rattle.hours_rules.specs.Rules.{Past, fault_from, failing}
 use Rattle.hours_rules.specs.Standing.{Stands}
 
--- every field of `a` is at least as good as that of `b`, at the same minute, with the same open run
-pub record IsAsGood (a b : Clock) : Type 0 where
+-- every field of `a` is at least as good as that of `b`, at the same minute, with the same open run; what is owed is no
+-- more and due no sooner
+pub record DominatesAtMinute (a b : Clock) : Type 0 where
   pub at : a.at ≡ b.at
   pub off : a.off ≡ b.off
   pub day_from : b.day_from ≤ℤ a.day_from
@@ -28,12 +29,14 @@ pub record IsAsGood (a b : Clock) : Type 0 where
   pub work_week : a.work_week ≤ b.work_week
   pub prev_drive : a.prev_drive ≡ b.prev_drive
   pub work_before : a.work_before ≡ b.work_before
+  pub owed : a.owed ≤ b.owed
+  pub due : 0 < a.owed → b.due ≤ℤ a.due
 
 -- two lines, with clocks that stand for them, the first as good as the second
 pub record Together (pa pb : Past) (wa wb : Minutes) : Type 0 where
   pub first : Clock
   pub second : Clock
-  pub as_good : IsAsGood first second
+  pub as_good : DominatesAtMinute first second
   pub first_stands : Stands first pa wa
   pub second_stands : Stands second pb wb
 
@@ -47,13 +50,14 @@ OrderLasts = (pa pb : Past) (wa wb more : Minutes) → Together pa pb wa wb →
 pub record IsEarlier (a b : Clock) : Type 0 where
   pub at : a.at ≤ b.at
   pub off : (a.off ≡ 0) × (b.off ≡ 0)
-  pub as_good : IsAsGood (record a { at = b.at }) b
+  pub as_good : DominatesAtMinute (record a { at = b.at }) b
 
--- the clock keeps the limits that are judged at any on-duty minute (Art. 8)
+-- the clock keeps the limits that are judged at any on-duty minute (Art. 8): a debt can still be paid in time
 pub record IsRested (c : Clock) : Type 0 where
   pub day : (pos c.at -ℤ c.day_from) ≤ℤ pos 900
   pub week : (pos c.at -ℤ c.rest_from) ≤ℤ pos 8640
   pub reduced : c.reduced ≤ 3
+  pub debt : 0 < c.owed → pos (c.at + 660 + c.owed) ≤ℤ c.due
 
 -- a clock at an earlier minute that is as good is brought to the later one's minute by Ready minutes, with no rule
 -- broken, and is then as good in every field; the later one keeps the limits of an on-duty minute
@@ -68,9 +72,9 @@ abbrev pub LastKeepsLimits : Type 0
 LastKeepsLimits = (b : Clock) (past : Past) (m : Minute) (week : Minutes) → Stands b past (m ∷ week) →
     is_duty m.mark ≡ true → failing past m week ≡ None → IsRested b
 
--- a clock is at least as good as another, which may be later: each of its numbers allows as much, and both or neither
--- have a first part of a break
-pub record IsBetterClock (a b : Clock) : Type 0 where
+-- a clock is at least as good as another, which may be later: each of its numbers allows as much, both or neither have a
+-- first part of a break, and what it owes is no more and due no sooner
+pub record ClockDominates (a b : Clock) : Type 0 where
   pub at : a.at ≤ b.at
   pub day_from : b.day_from ≤ℤ a.day_from
   pub rest_from : b.rest_from ≤ℤ a.rest_from
@@ -86,3 +90,5 @@ pub record IsBetterClock (a b : Clock) : Type 0 where
   pub pause_day : b.pause_day ≤ a.pause_day
   pub drive_week : a.drive_week ≤ b.drive_week
   pub work_week : a.work_week ≤ b.work_week
+  pub owed : a.owed ≤ b.owed
+  pub due : 0 < a.owed → b.due ≤ℤ a.due

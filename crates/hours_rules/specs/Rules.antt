@@ -1,35 +1,42 @@
 -- The rules, at a minute of the week, and a line's first fault.
-use Rattle.std.specs.Prelude.{ℕ, ◌+◌, Bool, not, ◌&&◌, ◌||◌, nat_lt, nat_le, if◌then◌else◌, List, [], ◌∷◌, ◌++◌, length, Option, Some, None, find, option_map}
+use Rattle.std.specs.Prelude.{ℕ, ◌+◌, Bool, not, ◌&&◌, ◌||◌, nat_eq, nat_lt, nat_le, int_le, pos, if◌then◌else◌, List, [], ◌∷◌, ◌++◌, length, Option, Some, None, find, option_map}
 use Rattle.minute_line.specs.declared.marks.Kind.{Kind}
 use Rattle.minute_line.specs.declared.marks.Kind.TheVariants.{Plain, Daily, Weekly}
 use Rattle.minute_line.specs.Minutes.{Minute, Minutes}
 use Rattle.hours_rules.specs.declared.rules.Rule.{Rule}
-use Rattle.hours_rules.specs.declared.rules.Rule.TheVariants.{H1, H2, H3, H4, H5, H6, H7, H8, H9, H10, H11}
+use Rattle.hours_rules.specs.declared.rules.Rule.TheVariants.{H1, H2, H3, H4, H5, H6, H7, H8, H9, H10, H11, H12}
 use Rattle.hours_rules.specs.declared.rules.Broken.{Broken}
 use Rattle.minute_line.specs.Marks.{is_duty, is_drive, is_working}
 use Rattle.hours_rules.specs.Counts.{count, open_run, ends_run, work_day_of, since_weekly, since_pause, period_of, ends_reduced, ends_long, times, off_in_runs, last_weekly}
+use Rattle.hours_rules.specs.Debts.{Debt, debt_along}
 
--- what stands before Monday: minutes, the weekly rest before them, and counts of earlier weeks
+-- what stands before Monday: minutes, the weekly rest and the debt before them, and counts of earlier weeks
 pub record Past : Type 0 where
   pub minutes : Minutes
   pub prev_weekly : ℕ
   pub prev_drive : ℕ
   pub work_before : ℕ
+  pub debt : Debt
 
 -- the line: the week so far, with all that stands before it
 abbrev pub whole : Past → Minutes → Minutes
 whole past week = week ++ past.minutes
+
+-- the debt of reduced weekly rests at the end of the week so far (Art. 8(6), 8(7))
+abbrev pub debt_of : Past → Minutes → Debt
+debt_of past week = debt_along past.debt (length past.minutes) (whole past week)
 
 -- how many long days that count have ended (Art. 6(1))
 abbrev pub long_days_of : Minutes → Minutes → ℕ
 long_days_of past [] = 0
 long_days_of past (m ∷ week) = (if ends_long past m week then 1 else 0) + long_days_of past week
 
--- how long an off run must be that is declared so, after a weekly rest of `weekly` minutes (Art. 4, 8(6))
-abbrev pub least_rest : Kind → ℕ → ℕ
-least_rest Plain weekly = 0
-least_rest Daily weekly = 540
-least_rest Weekly weekly = if nat_lt weekly 2700 then 2700 else 1440
+-- how long an off run must be that is declared so, after a weekly rest of `weekly` minutes and where `owed` minutes are
+-- owed (Art. 4, 8(6))
+abbrev pub least_rest : Kind → ℕ → ℕ → ℕ
+least_rest Plain weekly owed = 0
+least_rest Daily weekly owed = 540
+least_rest Weekly weekly owed = if nat_lt weekly 2700 || nat_lt 0 owed then 2700 else 1440
 
 -- the rule holds at the minute m, which follows `week`; each has the articles that `Rule` names
 abbrev pub holds : Past → Minute → Minutes → Rule → Bool
@@ -43,7 +50,8 @@ holds past m week H4 =
     not (is_duty m.mark) || nat_le (times ends_reduced (since_weekly (whole past (m ∷ week)))) 3
 holds past m week H5 =
     not (ends_run 1 m (whole past week))
-    || nat_le (least_rest m.kind (last_weekly past.prev_weekly (whole past week))) (open_run (whole past week))
+    || nat_le (least_rest m.kind (last_weekly past.prev_weekly (whole past week)) (debt_of past week).owed)
+    (open_run (whole past week))
 holds past m week H6 = not (is_duty m.mark) || nat_le (length (since_weekly (whole past (m ∷ week)))) 8640
 holds past m week H7 = not (is_drive m.mark) || nat_le (count is_drive (m ∷ week)) 3360
 holds past m week H8 = not (is_drive m.mark) || nat_le (count is_drive (m ∷ week) + past.prev_drive) 5400
@@ -56,24 +64,28 @@ holds past m week H11 =
     let worked = count is_working (work_day_of (whole past (m ∷ week))) in
     let paused = off_in_runs 15 (work_day_of (whole past (m ∷ week))) in
     not (is_working m.mark) || ((nat_lt worked 361 || nat_le 30 paused) && (nat_lt worked 541 || nat_le 45 paused))
+holds past m week H12 =
+    let debt = debt_of past (m ∷ week) in
+    not (is_duty m.mark) || (nat_eq debt.owed 0 || int_le (pos (length (m ∷ week) + 660 + debt.owed)) debt.due)
 
 -- the number in a rule's name
-abbrev pub number_of : Rule → ℕ
-number_of H1 = 1
-number_of H2 = 2
-number_of H3 = 3
-number_of H4 = 4
-number_of H5 = 5
-number_of H6 = 6
-number_of H7 = 7
-number_of H8 = 8
-number_of H9 = 9
-number_of H10 = 10
-number_of H11 = 11
+abbrev pub rule_number : Rule → ℕ
+rule_number H1 = 1
+rule_number H2 = 2
+rule_number H3 = 3
+rule_number H4 = 4
+rule_number H5 = 5
+rule_number H6 = 6
+rule_number H7 = 7
+rule_number H8 = 8
+rule_number H9 = 9
+rule_number H10 = 10
+rule_number H11 = 11
+rule_number H12 = 12
 
 -- the rules, in the order in which the faults of one minute are named
 abbrev pub all_rules : List Rule
-all_rules = H1 ∷ H2 ∷ H3 ∷ H4 ∷ H5 ∷ H6 ∷ H7 ∷ H8 ∷ H9 ∷ H10 ∷ H11 ∷ []
+all_rules = H1 ∷ H2 ∷ H3 ∷ H4 ∷ H5 ∷ H6 ∷ H7 ∷ H8 ∷ H9 ∷ H10 ∷ H11 ∷ H12 ∷ []
 
 -- the least rule that fails at the minute m, which follows `week`
 abbrev pub failing : Past → Minute → Minutes → Option Rule

@@ -1,10 +1,11 @@
 -- What the fields of a clock are the numbers of.
-use Rattle.std.specs.Prelude.{◌≡◌, ◌≤◌, length, pos, ◌-ℤ◌, min}
+use Rattle.std.specs.Prelude.{◌≡◌, ◌≤◌, length, pos, ◌-ℤ◌, ◌≤ℤ◌, min}
 use Rattle.minute_line.specs.Minutes.{Minutes}
 use Rattle.hours_rules.specs.declared.clocks.Clock.{Clock}
 use Rattle.minute_line.specs.Marks.{is_drive, is_working}
 use Rattle.hours_rules.specs.Counts.{count, open_run, has_run, work_day_of, since_weekly, since_pause, period_of, ends_reduced, times, off_in_runs, last_weekly}
-use Rattle.hours_rules.specs.Rules.{Past, whole, long_days_of}
+use Rattle.hours_rules.specs.Debts.{Debt}
+use Rattle.hours_rules.specs.Rules.{Past, whole, long_days_of, debt_of}
 
 -- the clock stands for a line that is cut after `week`: each field is what its name says, counted over that line
 pub record Stands (clock : Clock) (past : Past) (week : Minutes) : Type 0 where
@@ -26,6 +27,14 @@ pub record Stands (clock : Clock) (past : Past) (week : Minutes) : Type 0 where
   pub work_week : clock.work_week ≡ count is_working week
   pub prev_drive : clock.prev_drive ≡ past.prev_drive
   pub work_before : clock.work_before ≡ past.work_before
+  pub owed : clock.owed ≡ (debt_of past week).owed
+  pub due : clock.due ≡ (debt_of past week).due
+
+-- the debt is one that a history can bring along
+pub record IsCarried (debt : Debt) : Type 0 where
+  pub owed : debt.owed ≤ 1260
+  pub not_before : pos 0 ≤ℤ debt.due
+  pub due : debt.due ≤ℤ pos 30240
 
 -- the clock stands for some line, of a past and a week of the lengths that these may have
 pub record IsClock (clock : Clock) : Type 0 where
@@ -36,3 +45,4 @@ pub record IsClock (clock : Clock) : Type 0 where
   pub week_minutes : length week ≤ 10080
   pub prev_drive : past.prev_drive ≤ 10080
   pub work_before : past.work_before ≤ 161280
+  pub debt : IsCarried past.debt

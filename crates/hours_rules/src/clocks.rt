@@ -36,6 +36,10 @@ pub struct Clock {
     pub prev_drive: u32,
     /// The working minutes of the sixteen weeks before.
     pub work_before: u32,
+    /// The minutes of rest that are owed for a reduced weekly rest.
+    pub owed: u32,
+    /// The end of the week by which they are due, as a week minute.
+    pub due: i32,
     /// Whether the driving period has an off run of 15 or more, the first part of a break.
     pub half: bool,
     /// Whether the work day has an off run of 180 or more.
@@ -44,7 +48,7 @@ pub struct Clock {
 
 // A label of pricing holds a clock, and there are up to two million of them. The flags stand last, so that they share a
 // word.
-const _: () = prove!(size_of::<Clock>() <= 72);
+const _: () = prove!(size_of::<Clock>() <= 80);
 
 /// What a driver does at a place before an act: `ready` Ready minutes, then `off` Off minutes of a kind.
 #[derive(Clone, Copy, PartialEq, Eq, Debug)]

@@ -6,12 +6,12 @@ ghost use Rattle.minute_line.specs.Marks.{is_duty};
 ghost use Rattle.hours_rules.specs.Standing.{Stands, IsClock};
 ghost use Rattle.hours_rules.specs.Machine.{at_monday};
 ghost use Rattle.hours_rules.specs.Bounds.{IsWithin};
-ghost use Rattle.hours_rules.specs.Verdicts.{past_of, week_of, verdict_of};
+ghost use Rattle.hours_rules.specs.Verdicts.{past_of, week_minutes, verdict_of};
 ghost use Rattle.hours_rules.specs.Stints.{AnswersStint, StandsAfter, TakesKind};
 
 use crate::going::on_duty;
 use crate::{Broken, Clock, Verdict};
-use minute_line::{History, Kind, Line, Stint};
+use minute_line::{History, Kind, Line, Stint, WEEK_MINUTES};
 
 /// What the off run before the next stint is declared to be.
 fn declared_after(stint: &Stint) -> Kind
@@ -99,6 +99,8 @@ pub fn start(history: &History) -> Clock
         work_week: 0,
         prev_drive: history.prev_drive,
         work_before: sum_of_weeks(&history.work16),
+        owed: history.owed,
+        due: (history.due * WEEK_MINUTES) as i32,
     };
     let mut declared = Kind::Plain;
     for stint in history.stints.stints.as_slice() {
@@ -114,7 +116,7 @@ pub fn start(history: &History) -> Clock
 /// The line has at most 10,080 minutes, and what is missing is Off. It takes no memory, and time grows with the stints.
 pub fn judge(history: &History, line: &Line) -> Verdict
     requires { total_of line.now.stints ≤ 10080 }
-    ensures { result ≡ verdict_of (fault (past_of history.now) (week_of line.now)) }
+    ensures { result ≡ verdict_of (fault (past_of history.now) (week_minutes line.now)) }
 {
     let mut clock = start(history);
     let mut declared = Kind::Plain;

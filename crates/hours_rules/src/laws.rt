@@ -1,5 +1,5 @@
 // What the definitions come to, in the words of the regulation: laws, whose functions do nothing.
-ghost use Rattle.hours_rules.specs.Laws.{FortyFiveEnds, FifteenThenThirtyEnds, ThirtyThenFifteenGoesOn, FaultIsFirst, DayFollowsRest};
+ghost use Rattle.hours_rules.specs.Laws.{FortyFiveEnds, FifteenThenThirtyEnds, ThirtyThenFifteenGoesOn, FaultIsFirst, SpansBegin, DayFollowsRest};
 ghost use Rattle.hours_rules.specs.Order.{OrderLasts, ReadyCatchesUp, LastKeepsLimits};
 
 /// The law that an off run of 45 minutes always ends the driving period (Art. 7).
@@ -7,7 +7,7 @@ pub fn forty_five_ends_a_period()
     ensures { FortyFiveEnds }
 {}
 
-/// The law that 15 minutes and then 30 end the driving period.
+/// The law that 15 to 44 minutes and then 30 end the driving period.
 pub fn fifteen_then_thirty_end_a_period()
     ensures { FifteenThenThirtyEnds }
 {}
@@ -17,10 +17,16 @@ pub fn thirty_then_fifteen_end_none()
     ensures { ThirtyThenFifteenGoesOn }
 {}
 
-/// The law that a fault is the least rule of the first minute at which one fails, and that all rules hold all week
-/// where there is none.
+/// The law that a fault from a minute on is the least rule of the first minute from there on at which one fails, and that all
+/// rules hold from there on where there is none.
 pub fn fault_is_first()
     ensures { FaultIsFirst }
+{}
+
+/// The law that a span of a line begins at the last minute at which its test holds, or at the line's start, and that a line
+/// which has a minute has one in its span.
+pub fn spans_begin()
+    ensures { SpansBegin }
 {}
 
 /// The law that the work day of a minute begins after the last daily or weekly rest that ended before it.

@@ -3,6 +3,7 @@
 #![tactic(auto)]
 
 mod clocks;
+mod comparing;
 mod going;
 mod judging;
 mod laws;
@@ -19,6 +20,6 @@ pub use going::go;
 pub use judging::{judge, start};
 pub use laws::{
     day_follows_rest, fault_is_first, fifteen_then_thirty_end_a_period, forty_five_ends_a_period,
-    last_keeps_limits, order_lasts, ready_catches_up, thirty_then_fifteen_end_none,
+    last_keeps_limits, order_lasts, ready_catches_up, spans_begin, thirty_then_fifteen_end_none,
 };
 pub use rules::{Broken, Rule, Verdict, number};

@@ -1,6 +1,6 @@
 // How many on-duty minutes the rules let follow a clock, and which rule fails at the next one.
-ghost use Rattle.std.specs.Prelude.{◌≡◌, ℕ, ◌+◌, ◌-◌, ◌^◌, ◌≤◌, ◌<◌, ◌&&◌, nat_le, nat_lt, min, if◌then◌else◌};
-ghost use Rattle.hours_rules.specs.Machine.{room, limit_if, left_until, least_room, fault_after, fault_within, IsDutyRoom, work_room, drive_room};
+ghost use Rattle.std.specs.Prelude.{◌≡◌, ℕ, ◌+◌, ◌-◌, ◌^◌, ◌≤◌, ◌<◌, ◌≤ℤ◌, ◌+ℤ◌, pos, nat_lt, min, if◌then◌else◌};
+ghost use Rattle.hours_rules.specs.Machine.{room, short_here, debt_room, limit_if, left_until, least_room, fault_after, fault_within, IsDutyRoom, work_room, drive_room};
 ghost use Rattle.hours_rules.specs.Rules.{least_rest, all_rules};
 ghost use Rattle.hours_rules.specs.Bounds.{IsWithin};
 
@@ -11,7 +11,7 @@ use minute_line::{Kind, Mark};
 const UNLIMITED: u32 = 20000;
 
 /// The rules in the order in which they are named.
-const RULES: [Rule; 11] = [
+const RULES: [Rule; 12] = [
     Rule::H1,
     Rule::H2,
     Rule::H3,
@@ -23,17 +23,19 @@ const RULES: [Rule; 11] = [
     Rule::H9,
     Rule::H10,
     Rule::H11,
+    Rule::H12,
 ];
 
-/// How long a run that is declared so must be, after a weekly rest of so many minutes (Art. 4, 8(6)).
+/// How long a run that is declared so must be, after a weekly rest of so many minutes and where so many are owed (Art. 4,
+/// 8(6)).
 #[inline]
-fn least_run(kind: Kind, weekly: u32) -> u32
-    ensures { result ≡ least_rest kind weekly }
+fn least_run(kind: Kind, weekly: u32, owed: u32) -> u32
+    ensures { result ≡ least_rest kind weekly owed }
 {
     match kind {
         Kind::Plain => 0,
         Kind::Daily => 540,
-        Kind::Weekly if weekly < 2700 => 2700,
+        Kind::Weekly if weekly < 2700 || owed > 0 => 2700,
         Kind::Weekly => 1440,
     }
 }
@@ -45,6 +47,23 @@ fn limit_if(test: bool, limit: u32) -> u32
     if test { limit } else { UNLIMITED }
 }
 
+/// How many minutes are left until so many from where a span began.
+#[inline]
+fn left_until(limit: u32, from: i32, at: u32) -> u32
+    requires limit { limit ≤ 10000 }
+    requires at { at ≤ 100000 }
+    requires low { pos 0 ≤ℤ (from +ℤ pos 200000) }
+    requires high { from ≤ℤ pos 200000 }
+    ensures { result ≡ left_until limit from at }
+{
+    let used = at as i32 - from;
+    if used <= limit as i32 {
+        (limit as i32 - used).unsigned_abs()
+    } else {
+        0
+    }
+}
+
 impl Clock {
     /// How many minutes are left of the first 900 of the work day.
     #[inline]
@@ -52,12 +71,7 @@ impl Clock {
         requires { IsWithin 100000 self.now }
         ensures { result ≡ left_until 900 self.now.day_from self.now.at }
     {
-        let used = self.at as i32 - self.day_from;
-        if used <= 900 {
-            (900 - used).unsigned_abs()
-        } else {
-            0
-        }
+        left_until(900, self.day_from, self.at)
     }
 
     /// How many minutes are left of the first 8,640 after the last weekly rest.
@@ -66,12 +80,7 @@ impl Clock {
         requires { IsWithin 100000 self.now }
         ensures { result ≡ left_until 8640 self.now.rest_from self.now.at }
     {
-        let used = self.at as i32 - self.rest_from;
-        if used <= 8640 {
-            (8640 - used).unsigned_abs()
-        } else {
-            0
-        }
+        left_until(8640, self.rest_from, self.at)
     }
 
     /// How many Drive minutes are left of the work day: 540, or 600 on two days of the week.
@@ -108,9 +117,23 @@ impl Clock {
     /// Whether the open run is too short for what it is declared to be.
     #[inline]
     fn is_short(&self, kind: Kind) -> bool
-        ensures { result ≡ (nat_le 1 self.now.off && nat_lt self.now.off (least_rest kind self.now.prev_weekly)) }
+        ensures { result ≡ short_here self.now kind }
     {
-        self.off >= 1 && self.off < least_run(kind, self.prev_weekly)
+        self.off >= 1 && self.off < least_run(kind, self.prev_weekly, self.owed)
+    }
+
+    /// How many minutes are left until the last one at which a rest that pays what is owed can begin: one of 660 minutes and
+    /// the debt, which is to end by the time when it is due (Art. 8(6), 8(7)).
+    #[inline]
+    fn debt_left(&self) -> u32
+        requires { IsWithin 100000 self.now }
+        ensures { result ≡ debt_room self.now }
+    {
+        if self.owed == 0 {
+            return UNLIMITED;
+        }
+        let last = self.due - (660 + self.owed) as i32;
+        UNLIMITED.min(left_until(0, last, self.at))
     }
 
     /// How many on-duty minutes of one mark may follow by one rule, where `ended` is this clock once its run has ended.
@@ -135,10 +158,11 @@ impl Clock {
             Rule::H9 => limit_if(working, ended.work_left()),
             Rule::H10 => limit_if(working, 360u32.saturating_sub(ended.work_run)),
             Rule::H11 => limit_if(working, ended.pause_left()),
+            Rule::H12 => ended.debt_left(),
         }
     }
 
-    /// How many on-duty minutes the rules allow that are judged at each of them: H3 to H6.
+    /// How many on-duty minutes the rules allow that are judged at each of them: H3 to H6, and H12.
     #[inline]
     fn duty_room(&self, ended: &Clock, kind: Kind) -> u32
         requires within { IsWithin 100000 ended.now }
@@ -147,7 +171,10 @@ impl Clock {
         if ended.reduced > 3 || self.is_short(kind) {
             return 0;
         }
-        ended.day_left().min(ended.rest_left())
+        ended
+            .day_left()
+            .min(ended.rest_left())
+            .min(ended.debt_left())
     }
 
     /// How many working minutes the rules on working time allow: H9 to H11.

@@ -1,10 +1,11 @@
 // How a clock moves on: a run ends, on-duty minutes go by, Off minutes go by.
-ghost use Rattle.std.specs.Prelude.{◌≡◌, ℕ, ◌≤◌, if◌then◌else◌, nat_le, ◌||◌, false, pos};
-ghost use Rattle.hours_rules.specs.Machine.{rest_here, weekly_here, break_here, long_here, reduced_here, run_ended, ticked, rested};
+ghost use Rattle.std.specs.Prelude.{◌≡◌, ℕ, ◌≤◌, ◌<◌, ◌-◌, if◌then◌else◌, nat_le, ◌||◌, true, false, pos, ◌-ℤ◌};
+ghost use Rattle.hours_rules.specs.Debts.{third_week_end};
+ghost use Rattle.hours_rules.specs.Machine.{rest_here, weekly_here, break_here, long_here, reduced_here, paying_here, owing_here, run_ended, ticked, rested};
 ghost use Rattle.hours_rules.specs.Bounds.{IsWithin};
 
 use crate::Clock;
-use minute_line::{Kind, Mark};
+use minute_line::{Kind, Mark, REGULAR_WEEKLY_REST, WEEK_MINUTES};
 
 /// `count` where the test holds, or else none.
 #[inline]
@@ -20,6 +21,15 @@ fn unless(test: bool, count: u32) -> u32
     ensures { result ≡ (if test then 0 else count) }
 {
     if test { 0 } else { count }
+}
+
+/// The end of the third calendar week after the week of the minute before `at`, as a week minute.
+#[inline]
+fn third_week_end(at: u32) -> i32
+    requires { at ≤ 100000 }
+    ensures { result ≡ third_week_end (pos at -ℤ pos 1) }
+{
+    ((at.div_ceil(WEEK_MINUTES) + 3) * WEEK_MINUTES) as i32
 }
 
 impl Clock {
@@ -66,6 +76,57 @@ impl Clock {
             && kind.is_daily()
             && !self.split
             && (self.off < 660 || self.at as i32 - self.day_from - self.off as i32 > 780)
+    }
+
+    /// Whether it ends as a rest that pays what is owed: a regular daily or weekly rest that is longer by the debt (Art. 8(7)).
+    #[inline]
+    fn ends_paying(&self, kind: Kind) -> bool
+        requires { IsWithin 100000 self.now }
+        ensures { result ≡ paying_here self.now kind }
+    {
+        match kind {
+            Kind::Plain => false,
+            Kind::Daily => self.off >= 660 + self.owed,
+            Kind::Weekly => self.off >= REGULAR_WEEKLY_REST + self.owed,
+        }
+    }
+
+    /// Whether it ends as a reduced weekly rest where nothing is owed yet (Art. 8(6)).
+    #[inline]
+    fn ends_owing(&self, kind: Kind) -> bool
+        ensures { result ≡ owing_here self.now kind }
+    {
+        self.ends_weekly(kind) && self.off < REGULAR_WEEKLY_REST && self.owed == 0
+    }
+
+    /// What is owed once it has ended.
+    #[inline]
+    fn owed_after(&self, paying: bool, owing: bool) -> u32
+        requires { owing ≡ true → self.now.off < 2700 }
+        ensures { result ≡ (if paying then 0 else (if owing then 2700 - self.now.off else self.now.owed)) }
+    {
+        if paying {
+            0
+        } else if owing {
+            REGULAR_WEEKLY_REST - self.off
+        } else {
+            self.owed
+        }
+    }
+
+    /// When that is due.
+    #[inline]
+    fn due_after(&self, paying: bool, owing: bool) -> i32
+        requires { IsWithin 100000 self.now }
+        ensures { result ≡ (if paying then pos 0 else (if owing then third_week_end (pos self.now.at -ℤ pos 1) else self.now.due)) }
+    {
+        if paying {
+            0
+        } else if owing {
+            third_week_end(self.at)
+        } else {
+            self.due
+        }
     }
 
     /// Where the work day begins, which is here after a rest.
@@ -130,6 +191,8 @@ impl Clock {
         let reduced = self.ends_reduced(kind);
         let part = self.off >= 15;
         let paused = if_so(part, self.off) + self.pause_day;
+        let paying = self.ends_paying(kind);
+        let owing = self.ends_owing(kind);
         Clock {
             off: 0,
             day_from: self.day_start(rest),
@@ -144,6 +207,8 @@ impl Clock {
             work_run: unless(part, self.work_run),
             work_day: unless(rest, self.work_day),
             pause_day: unless(rest, paused.min(45)),
+            owed: self.owed_after(paying, owing),
+            due: self.due_after(paying, owing),
             ..*self
         }
     }

@@ -102,6 +102,11 @@ fn driving_period(line: &[Minute]) -> &[Minute] {
     period
 }
 
+/// The minutes of the week.
+fn week_of(line: &[Minute], monday: usize) -> &[Minute] {
+    line.get(monday..).unwrap_or(&[])
+}
+
 fn drive_in(minutes: &[Minute]) -> usize {
     minutes
         .iter()
@@ -158,6 +163,24 @@ fn weekly_before(history: &History, before: &[Minute]) -> usize {
     }
 }
 
+/// The minutes of rest that are owed at the end of the line, and how many minutes the line may have when they are paid. A week
+/// begins at `monday`, and no weekly rest ends before it.
+fn debt(history: &History, line: &[Minute], monday: usize) -> (usize, usize) {
+    let mut owed = history.owed as usize;
+    let mut due = monday.saturating_add((history.due as usize).saturating_mul(10_080));
+    for (i, minute) in line.iter().enumerate() {
+        let regular: usize = if minute.kind.is_weekly() { 2700 } else { 660 };
+        if minute.ends_rest() && minute.run >= regular.saturating_add(owed) {
+            owed = 0;
+        } else if minute.ends_weekly() && minute.run < 2700 && owed == 0 {
+            owed = 2700usize.saturating_sub(minute.run);
+            let weeks = i.saturating_sub(monday).div_ceil(10_080).saturating_add(3);
+            due = monday.saturating_add(weeks.saturating_mul(10_080));
+        }
+    }
+    (owed, due)
+}
+
 /// The off minutes of the earlier runs of 15 or more of a work day.
 fn paused(day: &[Minute]) -> usize {
     day.iter()
@@ -168,7 +191,6 @@ fn paused(day: &[Minute]) -> usize {
 
 /// Whether a rule on driving holds at a Drive minute, the last of the line.
 fn driving_holds(history: &History, line: &[Minute], monday: usize, rule: Rule) -> bool {
-    let week = drive_in(line.get(monday..).unwrap_or(&[]));
     match rule {
         Rule::H1 => drive_in(driving_period(line)) <= 270,
         Rule::H2 => {
@@ -179,8 +201,11 @@ fn driving_holds(history: &History, line: &[Minute], monday: usize, rule: Rule) 
             };
             drive_in(work_day(line)) <= limit
         }
-        Rule::H7 => week <= 3360,
-        Rule::H8 => week.saturating_add(history.prev_drive as usize) <= 5400,
+        Rule::H7 => drive_in(week_of(line, monday)) <= 3360,
+        Rule::H8 => {
+            let week = drive_in(week_of(line, monday));
+            week.saturating_add(history.prev_drive as usize) <= 5400
+        }
         _ => true,
     }
 }
@@ -191,6 +216,7 @@ fn rest_holds(
     minute: &Minute,
     before: &[Minute],
     line: &[Minute],
+    monday: usize,
     rule: Rule,
 ) -> bool {
     match rule {
@@ -203,11 +229,17 @@ fn rest_holds(
                     Kind::Daily => minute.run >= 540,
                     Kind::Weekly => {
                         minute.run >= 2700
-                            || (minute.run >= 1440 && weekly_before(history, before) >= 2700)
+                            || (minute.run >= 1440
+                                && weekly_before(history, before) >= 2700
+                                && debt(history, before, monday).0 == 0)
                     }
                 }
         }
         Rule::H6 => since_weekly(line).len() <= 8640,
+        Rule::H12 => {
+            let (owed, due) = debt(history, line, monday);
+            owed == 0 || line.len().saturating_add(660).saturating_add(owed) <= due
+        }
         _ => true,
     }
 }
@@ -216,7 +248,7 @@ fn rest_holds(
 fn working_holds(history: &History, line: &[Minute], monday: usize, rule: Rule) -> bool {
     match rule {
         Rule::H9 => {
-            let week = work_in(line.get(monday..).unwrap_or(&[]));
+            let week = work_in(week_of(line, monday));
             let before = history.work16.iter().fold(
                 0usize,
                 |sum, minutes| sum.saturating_add(*minutes as usize),
@@ -250,11 +282,12 @@ fn failing(history: &History, line: &[Minute], monday: usize) -> Option<Rule> {
         Rule::H9,
         Rule::H10,
         Rule::H11,
+        Rule::H12,
     ];
     for rule in rules {
         let mark = minute.mark;
         if (mark.is_drive() && !driving_holds(history, line, monday, rule))
-            || (!mark.is_off() && !rest_holds(history, minute, before, line, rule))
+            || (!mark.is_off() && !rest_holds(history, minute, before, line, monday, rule))
             || (mark.is_working() && !working_holds(history, line, monday, rule))
         {
             return Some(rule);

@@ -20,6 +20,11 @@ enum Before {
     Worked(u32, u32),
     /// A day of 600 Drive minutes that ended 700 minutes before Monday.
     Drove,
+    /// A weekly rest of 1,440 minutes, an hour on duty and 2,880 minutes of rest. The 1,260 minutes that are owed are due after so
+    /// many weeks.
+    Owing(u32),
+    /// The same debt, due on Monday; after it a daily rest of so many minutes between two hours of work, and 2,880 of rest.
+    Rested(u32),
 }
 
 /// A stay in which nothing is done.
@@ -157,6 +162,8 @@ fn worked(alloc: Global, prev_drive: u32, each: u32) -> Option<History> {
         open_off: 2880,
         prev_drive,
         work16: [each; 16],
+        owed: 0,
+        due: 0,
     })
 }
 
@@ -174,6 +181,28 @@ fn drove(alloc: Global) -> Result<Option<History>, AllocError> {
         open_off: 700,
         prev_drive: 600,
         work16: [600; 16],
+        owed: 0,
+        due: 0,
+    }))
+}
+
+/// A history of 1,260 minutes that are owed, which ends with 2,880 minutes of rest.
+fn owing(alloc: Global, text: &str, due: u32) -> Result<Option<History>, AllocError> {
+    let stints = stints_of(alloc, text)?;
+    if !are_a_past(false, stints.as_slice()) || due > 3 {
+        return Ok(None);
+    }
+    let Some(line) = line_of(stints) else {
+        return Ok(None);
+    };
+    Ok(Some(History {
+        prev_weekly: 1440,
+        stints: line,
+        open_off: 2880,
+        prev_drive: 0,
+        work16: [0; 16],
+        owed: 1260,
+        due,
     }))
 }
 
@@ -182,6 +211,12 @@ fn history_of(alloc: Global, before: Before) -> Result<Option<History>, AllocErr
         Before::Fresh => Ok(Some(fresh(alloc))),
         Before::Worked(prev_drive, each) => Ok(worked(alloc, prev_drive, each)),
         Before::Drove => drove(alloc),
+        Before::Owing(weeks) => owing(alloc, "READY 60", weeks),
+        Before::Rested(minutes) => owing(
+            alloc,
+            format!(in alloc; "WORK 60, DAILY {minutes}, WORK 60")?.as_str(),
+            0,
+        ),
     }
 }
 
@@ -262,7 +297,7 @@ fn found(
 type Row = (Before, &'static str, Option<(u32, u32)>);
 
 /// Worked lines of the hours rules. Where no calculation stands above a row, the rule's threshold is in it.
-const ROWS: [Row; 48] = [
+const ROWS: [Row; 64] = [
     // four and a half hours of driving, and a minute more
     (Before::Fresh, "WEEKLY 360, DRIVE 270", None),
     (Before::Fresh, "WEEKLY 360, DRIVE 271", Some((1, 630))),
@@ -509,6 +544,88 @@ const ROWS: [Row; 48] = [
      DRIVE 270, OFF 45, DRIVE 60, DAILY 660, DRIVE 270, OFF 45, DRIVE 270, OFF 45, DRIVE 1",
         Some((2, 3350)),
     ),
+    // a reduced weekly rest of 1,440 leaves 1,260 to be paid, by a weekly rest of 2,700 and them or a daily one of 660 and them;
+    // while they are owed no weekly rest may be reduced. By hand: 360 + 60 + 1440 + 60 + 2700 + 60 + 1440 = 6120, and with 3959
+    // for 2700 it is 7379
+    (
+        Before::Fresh,
+        "WEEKLY 360, WORK 60, WEEKLY 1440, WORK 60, WEEKLY 2700, WORK 60, WEEKLY 1440, WORK 1",
+        Some((5, 6120)),
+    ),
+    (
+        Before::Fresh,
+        "WEEKLY 360, WORK 60, WEEKLY 1440, WORK 60, WEEKLY 3960, WORK 60, WEEKLY 1440, WORK 1",
+        None,
+    ),
+    (
+        Before::Fresh,
+        "WEEKLY 360, WORK 60, WEEKLY 1440, WORK 60, WEEKLY 3959, WORK 60, WEEKLY 1440, WORK 1",
+        Some((5, 7379)),
+    ),
+    (
+        Before::Fresh,
+        "WEEKLY 360, WORK 60, WEEKLY 1440, WORK 60, WEEKLY 2700, WORK 60, WEEKLY 2700, WORK 1",
+        None,
+    ),
+    // by hand: 360 + 60 + 1500 + 60 + 1859 + 60 + 2700 + 60 + 1440 = 8099
+    (
+        Before::Fresh,
+        "WEEKLY 360, WORK 60, WEEKLY 1500, WORK 60, DAILY 1860, WORK 60, WEEKLY 2700, WORK 60, \
+     WEEKLY 1440, WORK 1",
+        None,
+    ),
+    (
+        Before::Fresh,
+        "WEEKLY 360, WORK 60, WEEKLY 1500, WORK 60, DAILY 1859, WORK 60, WEEKLY 2700, WORK 60, \
+     WEEKLY 1440, WORK 1",
+        Some((5, 8099)),
+    ),
+    // a debt of 1,260 due at minute 10,080: the last on-duty minute is 8,159, since 8160 + 660 + 1260 = 10080. By hand:
+    // 360 + 5 * 1440 + 600 = 8160
+    (
+        Before::Owing(1),
+        "WEEKLY 360, WORK 60, DAILY 1380, WORK 60, DAILY 1380, WORK 60, DAILY 1380, WORK 60, \
+     DAILY 1380, WORK 60, DAILY 1380, READY 600",
+        None,
+    ),
+    (
+        Before::Owing(1),
+        "WEEKLY 360, WORK 60, DAILY 1380, WORK 60, DAILY 1380, WORK 60, DAILY 1380, WORK 60, \
+     DAILY 1380, WORK 60, DAILY 1380, READY 601",
+        Some((12, 8160)),
+    ),
+    (
+        Before::Owing(2),
+        "WEEKLY 360, WORK 60, DAILY 1380, WORK 60, DAILY 1380, WORK 60, DAILY 1380, WORK 60, \
+     DAILY 1380, WORK 60, DAILY 1380, READY 601",
+        None,
+    ),
+    // a first rest of 2880 + 1080 = 2700 + 1260 pays, and one of a minute less doesn't; by hand: 1079 + 5 * 1440 = 8279
+    (
+        Before::Owing(1),
+        "WEEKLY 1080, WORK 60, DAILY 1380, WORK 60, DAILY 1380, WORK 60, DAILY 1380, WORK 60, \
+     DAILY 1380, WORK 60, DAILY 1380, READY 601",
+        None,
+    ),
+    (
+        Before::Owing(1),
+        "WEEKLY 1079, WORK 60, DAILY 1380, WORK 60, DAILY 1380, WORK 60, DAILY 1380, WORK 60, \
+     DAILY 1380, WORK 60, DAILY 1380, READY 601",
+        Some((12, 8279)),
+    ),
+    // what was due on Monday stands until it is paid, also late
+    (Before::Owing(0), "WEEKLY 1079, WORK 1", Some((12, 1079))),
+    (Before::Owing(0), "WEEKLY 1080, WORK 1", None),
+    // a daily rest of 660 + 1260 before Monday has paid
+    (Before::Rested(1920), "WEEKLY 360, WORK 1", None),
+    (Before::Rested(1919), "WEEKLY 360, WORK 1", Some((12, 360))),
+    // too short a weekly rest after which it is too late to pay: the least rule is named; by hand: 360 + 4 * 1440 + 60 + 2000
+    (
+        Before::Owing(1),
+        "WEEKLY 360, WORK 60, DAILY 1380, WORK 60, DAILY 1380, WORK 60, DAILY 1380, WORK 60, \
+     DAILY 1380, WORK 60, WEEKLY 2000, WORK 1",
+        Some((5, 8180)),
+    ),
     // the 601st Drive minute of the day and its 1,391st minute: the least rule is named
     (Before::Drove, "DRIVE 1", Some((2, 0))),
 ];
@@ -527,7 +644,7 @@ fn each_row_has_its_fault_by_every_judge(rt: HostRuntime) -> Result<(), Fail> {
             by_steps = by_steps.saturating_add(1);
         }
     }
-    assert_eq!(rt; by_steps, 38, "rows that are stays and acts");
+    assert_eq!(rt; by_steps, 49, "rows that are stays and acts");
     Ok(())
 }
 
@@ -550,6 +667,8 @@ fn after_weekly(at: u32, drive: u32, work: u32) -> Clock {
         work_week: work,
         prev_drive: 0,
         work_before: 0,
+        owed: 0,
+        due: 0,
         half: false,
         split: false,
     }
@@ -589,4 +708,32 @@ fn a_clock_counts_the_minutes_of_each_step(rt: HostRuntime) {
         }
         assert_eq!(rt; clock, after, "at {}", after.at);
     }
+}
+
+// By hand. A rest of 1,440 that ends on Monday 00:00 has its last minute in the week before, so what it leaves is due at the end
+// of the second week after the planned one's; a minute later it is due a week later, and there is a minute less of it.
+#[test]
+fn a_debt_is_due_three_weeks_after_the_last_minute_of_its_rest(
+    rt: HostRuntime,
+) -> Result<(), Fail> {
+    let rows: [(u32, u32, i32); 4] = [
+        (0, 1260, 30_240),
+        (1, 1259, 40_320),
+        (1259, 1, 40_320),
+        (1260, 0, 0),
+    ];
+    let mut history = fresh(rt.alloc());
+    history.open_off = 1440;
+    for (off, owed, due) in rows {
+        let rest = Stay {
+            ready: 0,
+            off,
+            kind: Kind::Weekly,
+        };
+        let Some(Ok(clock)) = step(&start(&history), rest, Mark::Work, 15) else {
+            panic!(rt; "no clock after {off}");
+        };
+        assert_eq!(rt; (clock.owed, clock.due), (owed, due), "after {off}");
+    }
+    Ok(())
 }

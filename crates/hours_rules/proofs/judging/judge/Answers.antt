@@ -2,7 +2,7 @@ use Rattle.std.proofs.Common.{arith, sym, ap, take, fold, ◌+◌}
 use Rattle.std.proofs.lemmas.List.Sums.{fold_more}
 use Rattle.minute_line.specs.Minutes.{add_stint, nothing}
 use Rattle.hours_rules.specs.Verdicts.{past_of, verdict_of}
-use Rattle.hours_rules.proofs.Histories.{is_history}
+use Rattle.hours_rules.proofs.Histories.{is_history, carried}
 use Rattle.hours_rules.proofs.Starts.{within-read, length-past_of, fault-found_early, fault-none}
 use Rattle.hours_rules.proofs.judging.judge.Goals as goal
 
@@ -11,7 +11,7 @@ judged-requires-clause-within c =
     let h = is_history c.args.history.now in
     within-read 80000 10080 c.loop-stint.clock (past_of c.args.history.now) c.as_slice-stint-items.result.now c.loop-stint.stint-index
     c.loop-stint.invariant.stands (rw c.as_slice-stint-items.ensures c.requires)
-    (omega (arith, length-past_of c.args.history.now h)) (omega arith) (omega arith)
+    (omega (arith, length-past_of c.args.history.now h)) (omega arith) (omega arith) (carried c.args.history.now)
 
 pub returns-in-Err : goal.returns-in-Err
 returns-in-Err c =

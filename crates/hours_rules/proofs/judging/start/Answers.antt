@@ -4,8 +4,9 @@ use Rattle.std.proofs.lemmas.List.Sums.{fold_more}
 use Rattle.minute_line.specs.declared.marks.Kind.TheVariants.{Plain}
 use Rattle.minute_line.specs.Minutes.{add_stint, nothing}
 use Rattle.hours_rules.specs.Stints.{before_history}
-use Rattle.hours_rules.proofs.Histories.{is_history}
+use Rattle.hours_rules.proofs.Histories.{is_history, carried}
 use Rattle.hours_rules.proofs.Chains.{starts-off}
+use Rattle.hours_rules.proofs.DebtSizes.{no_weekly-history}
 use Rattle.hours_rules.proofs.Starts.{within-read, stands-monday}
 use Rattle.hours_rules.proofs.Within.{within-rested}
 use Rattle.hours_rules.proofs.Blocks.{stands-off_block}
@@ -15,7 +16,7 @@ pub pass-clock-requires-clause-within : goal.pass-clock-requires-clause-within
 pass-clock-requires-clause-within c =
     let h = is_history c.args.history.now in
     within-read 80000 20160 c.loop-stint.clock (before_history c.args.history.now) c.as_slice-stint-items.result.now c.loop-stint.stint-index
-    c.loop-stint.invariant.stands (rw c.as_slice-stint-items.ensures h.stints) (omega arith) (omega arith) (omega arith)
+    c.loop-stint.invariant.stands (rw c.as_slice-stint-items.ensures h.stints) (omega arith) (omega arith) (omega arith) (carried c.args.history.now)
 
 pub loop-stint-preserved : goal.loop-stint-preserved
 loop-stint-preserved c =
@@ -28,14 +29,14 @@ pub rest-rested-requires-clause-within : goal.rest-rested-requires-clause-within
 rest-rested-requires-clause-within c =
     let h = is_history c.args.history.now in
     within-read 100000 20160 c.loop-stint.clock (before_history c.args.history.now) c.as_slice-stint-items.result.now c.loop-stint.stint-index
-    c.loop-stint.invariant.stands (rw c.as_slice-stint-items.ensures h.stints) (omega arith) (omega arith) (omega arith)
+    c.loop-stint.invariant.stands (rw c.as_slice-stint-items.ensures h.stints) (omega arith) (omega arith) (omega arith) (carried c.args.history.now)
 
 pub to_monday-requires : goal.to_monday-requires
 to_monday-requires c = let h = is_history c.args.history.now in record {
   within = rw c.rest-rested.ensures
       (within-rested 20160 c.args.history.now.open_off 80000 _ (omega arith)
       (within-read 20160 20160 c.loop-stint.clock (before_history c.args.history.now) c.as_slice-stint-items.result.now c.loop-stint.stint-index
-      c.loop-stint.invariant.stands (rw c.as_slice-stint-items.ensures h.stints) (omega arith) (omega arith) (omega arith)));
+      c.loop-stint.invariant.stands (rw c.as_slice-stint-items.ensures h.stints) (omega arith) (omega arith) (omega arith) (carried c.args.history.now)));
 }
 
 pub returns-clause-line : goal.returns-clause-line
@@ -44,7 +45,7 @@ returns-clause-line c =
     take_all c.loop-stint.stint-index c.as_slice-stint-items.result.now c.loop-stint-test.false ∙ c.as_slice-stint-items.ensures in
     let s = rw all at c.loop-stint.invariant.stands in
     rw (c.to_monday.ensures, c.rest-rested.ensures)
-    (stands-monday _ (before_history c.args.history.now) _ refl
+    (stands-monday _ (before_history c.args.history.now) _ refl (no_weekly-history c.args.history.now)
     (stands-off_block c.loop-stint.clock (before_history c.args.history.now) c.args.history.now.open_off Plain _ s))
 
 pub returns-clause-clock : goal.returns-clause-clock

@@ -23,4 +23,6 @@ returns c = clock_ext _ _ (record {
   work_week = grind arith;
   prev_drive = grind arith;
   work_before = grind arith;
+  owed = c.owed_after.ensures ∙ rw (c.ends_paying-paying.ensures, c.ends_owing-owing.ensures) refl;
+  due = let e : to_z w32 (of_z w32 c.due_after.result) ≡ c.due_after.result = omega (arith, ints) in e ∙ c.due_after.ensures ∙ rw (c.ends_paying-paying.ensures, c.ends_owing-owing.ensures) refl;
 })

@@ -10,7 +10,7 @@ loop-rule-init c = refl
 
 pub returns-then-room-least : goal.returns-then-room-least
 returns-then-room-least c =
-    let h : c.loop-rule.rule-index < 11 = omega arith in
+    let h : c.loop-rule.rule-index < 12 = omega arith in
     let f = room c.args.self.now c.args.ended.now c.args.mark c.args.kind in
     let l = c.if-room-least.true in
     sym (after_found f c.args.self.now.at c.args.least _
@@ -19,7 +19,7 @@ returns-then-room-least c =
 
 pub loop-rule-preserved : goal.loop-rule-preserved
 loop-rule-preserved c =
-    let h : c.loop-rule.rule-index < 11 = omega arith in
+    let h : c.loop-rule.rule-index < 12 = omega arith in
     let f = room c.args.self.now c.args.ended.now c.args.mark c.args.kind in
     let l = c.if-room-least.false in
     find_skip (λ rule. leb (f rule) c.args.least) all_rules c.loop-rule.rule-index _ h
