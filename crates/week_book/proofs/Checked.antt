@@ -18,7 +18,7 @@ use Rattle.week_book.specs.declared.errors.WeekError.TheVariants.{Memory}
 use Rattle.week_book.specs.Names.{is_name}
 use Rattle.week_book.specs.Ranges.{is_within, is_grid, keeps_ranges}
 use Rattle.week_book.specs.Texts.{each_row}
-use Rattle.week_book.specs.Numbers.{place_in, driver_in, leg_in, order_in, places_of, drivers_of, driver_names}
+use Rattle.week_book.specs.Numbers.{place_in, driver_in, leg_in, order_in, place_names, drivers_of, driver_names}
 use Rattle.week_book.specs.Checking.{is_of, fault_of, week_made}
 use Rattle.week_book.specs.Weeks.{IsLeg, IsDriver, IsOrder, AreNames, same_ends, IsWeek}
 use Rattle.week_book.proofs.Apart.{apart}
@@ -47,10 +47,10 @@ grid_is grid fits = by_test (grid == 15) (grid == 30) (grid == 60) (eqb-true gri
     by_test false true c f g h fits = inr (inl (g refl))
     by_test false false c f g h fits = inr (inr (h fits))
 
-some_place : (rows : List Row) → list_any (is_of Places) rows ≡ true → 1 ≤ length (places_of rows)
+some_place : (rows : List Row) → list_any (is_of Places) rows ≡ true → 1 ≤ length (place_names rows)
 some_place [] there = absurd (false≢true there)
 some_place (r ∷ rs) there =
-    some_case (place_in r) (is_of Places r) (list_any (is_of Places) rs) (places_of rs) (is_place r) there (some_place rs)
+    some_case (place_in r) (is_of Places r) (list_any (is_of Places) rs) (place_names rs) (is_place r) there (some_place rs)
   where
     some_case : (o : Option (List ℕ)) (here later : Bool) (xs : List (List ℕ)) → is_some o ≡ here → (here || later) ≡ true
         → (later ≡ true → 1 ≤ length xs) → 1 ≤ length (cons_option o xs)
@@ -71,7 +71,7 @@ made_is : (rows others : List Row) → IsFaultless rows → each_row keeps_range
     → IfOk (week_made rows others) IsWeek
 made_is rows [] none fits first = tt
 made_is rows (row.Week n monday load night grid ∷ rs) none fits first =
-    let places = places_of rows in
+    let places = place_names rows in
     let legs = filter_map (leg_in places) rows in
     let orders = filter_map (order_in places) rows in
     let names = driver_names rows in

@@ -14,7 +14,7 @@ use Rattle.week_book.specs.Ranges.{did_names, has_begun, is_did_span, fields_in_
 use Rattle.week_book.specs.Names.{is_name}
 use Rattle.week_book.specs.Pasts.{is_off_word}
 use Rattle.week_book.specs.Keys.{double_fault}
-use Rattle.week_book.specs.Numbers.{place_in, places_of, driver_names, unknown_fault}
+use Rattle.week_book.specs.Numbers.{place_in, place_names, driver_names, unknown_fault}
 use Rattle.week_book.specs.Texts.{each_row}
 use Rattle.week_book.specs.Driven.{driven, did_fault}
 use Rattle.week_book.specs.Checking.{is_of, limit_of, too_many, count_fault, counts_fault, depot_fault, fault_of, unless_faulty}
@@ -33,7 +33,7 @@ pub record IsFaultless (rows : List Row) : Type 0 where
   pub depot : depot_fault rows ≡ None
   pub ranges : range_fault rows ≡ None
   pub doubles : double_fault rows ≡ None
-  pub names : unknown_fault (places_of rows) (driver_names rows) rows ≡ None
+  pub names : unknown_fault (place_names rows) (driver_names rows) rows ≡ None
 
 pub faultless : (rows : List Row) → fault_of rows ≡ None → IsFaultless rows
 faultless rows none =
@@ -45,7 +45,7 @@ faultless rows none =
     let depot = neither (depot_fault rows) _ all.1 in
     let ranges = neither (range_fault rows) _ depot.1 in
     let doubles = neither (double_fault rows) _ ranges.1 in
-    let names = neither (unknown_fault (places_of rows) (driver_names rows) rows) _ doubles.1 in
+    let names = neither (unknown_fault (place_names rows) (driver_names rows) rows) _ doubles.1 in
     record {
       places = places.0;
       legs = legs.0;
@@ -93,7 +93,7 @@ is_place (row.Place n name) = refl
 is_place _ = refl
 
 -- at most 64 places
-pub few_places : (rows : List Row) → fault_of rows ≡ None → length (places_of rows) ≤ 64
+pub few_places : (rows : List Row) → fault_of rows ≡ None → length (place_names rows) ≤ 64
 few_places rows none = limited Places place_in is_place rows (faultless rows none).places
 
 outside_case : (is_in : Bool) (e : WeekError) (o : Option WeekError) → (if is_in then o else Some e) ≡ None → (is_in ≡ true) × (o ≡ None)

@@ -11,10 +11,10 @@ use Rattle.week_book.specs.Names.{is_name}
 use Rattle.week_book.specs.Ranges.{is_did_span, is_within, range_fault, keeps_ranges}
 use Rattle.week_book.specs.Keys.{key_of, double_fault}
 use Rattle.week_book.specs.Texts.{each_row}
-use Rattle.week_book.specs.Pasts.{HasPastRows, in_past_range, rests_of, toils_of}
+use Rattle.week_book.specs.Pasts.{HasPastRows, in_past_range, rests_of, past_working_times_of}
 use Rattle.week_book.proofs.Apart.{IsApart, AreApart, apart}
 use Rattle.week_book.proofs.Faultless.{kept}
-use Rattle.week_book.proofs.Spells.{zeros}
+use Rattle.week_book.proofs.Activities.{zeros}
 
 each_week : (weeks : List ℕ) → list_all (λ is_in. is_in) (map (λ m. nat_le m 10080) weeks) ≡ all_up_to 10080 weeks
 each_week [] = refl
@@ -80,10 +80,10 @@ rest_adds name (row.Rest n driver end minutes) rs =
     of_driver (rests_of name) 4 driver name (row.Rest n driver end minutes) rs _ refl (bytes_eq driver name) refl refl
 rest_adds name _ rs = inl refl
 
-toil_adds : (name : List ℕ) (r : Row) (rs : List Row) → Adds (toils_of name) (5 ∷ name) r rs
-toil_adds name (row.Worked n driver last weeks) rs =
-    of_driver (toils_of name) 5 driver name (row.Worked n driver last weeks) rs _ refl (bytes_eq driver name) refl refl
-toil_adds name _ rs = inl refl
+past_work_adds : (name : List ℕ) (r : Row) (rs : List Row) → Adds (past_working_times_of name) (5 ∷ name) r rs
+past_work_adds name (row.Worked n driver last weeks) rs =
+    of_driver (past_working_times_of name) 5 driver name (row.Worked n driver last weeks) rs _ refl (bytes_eq driver name) refl refl
+past_work_adds name _ rs = inl refl
 
 -- the rows of a text in which no field is outside its range and no row is a double
 pub has_past_rows : (rows : List Row) → length rows ≤ 1048576 → range_fault rows ≡ None → double_fault rows ≡ None → HasPastRows rows
@@ -93,6 +93,6 @@ has_past_rows rows few ranges doubles =
       few = few;
       ranges = past_rows rows (kept [] rows ranges);
       rests = λ name. one_item (rests_of name) (4 ∷ name) refl (rest_adds name) rows far;
-      toils = λ name. one_item (toils_of name) (5 ∷ name) refl (toil_adds name) rows far;
+      past_works = λ name. one_item (past_working_times_of name) (5 ∷ name) refl (past_work_adds name) rows far;
       zeros = λ name. zeros name [] rows ranges refl;
     }

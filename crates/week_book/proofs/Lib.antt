@@ -5,7 +5,7 @@ pub mod Faultless
 pub mod Meetings
 pub mod Apart
 pub mod Items
-pub mod Spells
+pub mod Activities
 pub mod History
 pub mod Sound
 pub mod ItemKeys

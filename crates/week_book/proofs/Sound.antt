@@ -1,21 +1,22 @@
 -- What the items of rows keep, where each row is in its ranges and its names are known.
 use Rattle.std.proofs.Common.{◌≡◌, ◌≢◌, ◌∙◌, ℕ, ◌≤◌, true, not, nat_le, nat_abs, ℤ, pos, negsuc, int_le, Option, Some, None, List, [], ◌∷◌, length, unwrap_or, refl, sym, ap}
-use Rattle.std.proofs.lemmas.Bool.{false≢true, leb-true, and_parts}
+use Rattle.std.proofs.lemmas.Bool.{false≢true, leb-true, and_from, and_parts}
 use Rattle.std.specs.List.{AllByRecursion}
-use Rattle.std.specs.Option.{IfSome}
+use Rattle.std.specs.Option.{IfSome, is_some}
 use Rattle.std.specs.Str.{bytes_eq}
 use Rattle.week_book.specs.declared.rows.Row.{Row}
 use Rattle.week_book.specs.declared.rows.Row.TheVariants as row
 use Rattle.week_book.specs.declared.weeks.Order.{Order}
 use Rattle.week_book.specs.declared.weeks.Driver.{Driver}
-use Rattle.week_book.specs.Names.{is_name, number_of}
+use Rattle.week_book.specs.declared.errors.WeekError.TheVariants.{Unknown}
+use Rattle.week_book.specs.Names.{is_among, is_name, number_of}
 use Rattle.week_book.specs.Faults.{first_of}
 use Rattle.week_book.specs.Ranges.{is_within, is_week_minute, is_close_of, is_other_name, keeps_ranges}
 use Rattle.week_book.specs.Texts.{each_row}
-use Rattle.week_book.specs.Numbers.{numbered, place_in, driver_in, leg_in, order_in, unknown_name, unknown_of}
+use Rattle.week_book.specs.Numbers.{has_known_places, numbered, place_in, driver_in, leg_in, order_in, unknown_name, unknown_of}
 use Rattle.week_book.specs.Weeks.{IsLeg, IsDriver, IsOrder}
-use Rattle.week_book.proofs.Maps.{number_in, number_same}
-use Rattle.week_book.proofs.Faultless.{neither}
+use Rattle.week_book.proofs.Maps.{number_among, number_in, number_same}
+use Rattle.week_book.proofs.Faultless.{neither, passed}
 
 -- a row in its ranges, whose names are known
 pub record IsSound (places drivers : List (List ℕ)) (r : Row) : Type 0 where
@@ -46,11 +47,30 @@ window_is (negsuc a) closes open_fits close_fits = absurd (false≢true open_fit
 -- a name that is known has its number
 pub known_number : (names : List (List ℕ)) (n field : ℕ) (name : List ℕ) → unknown_name names n field name ≡ None
     → number_of names name ≡ Some (numbered names name)
-known_number names n field name none = by_number (number_of names name) refl
+known_number names n field name none =
+    by_number (number_of names name) refl (number_among 0 names name ∙ passed (is_among names name) (Unknown n field) none)
   where
-    by_number : (o : Option ℕ) → number_of names name ≡ o → number_of names name ≡ Some (numbered names name)
-    by_number None e = let h = rw e at none in absurd cc
-    by_number (Some k) e = e ∙ ap (λ (o : Option ℕ). Some (unwrap_or o 0)) (sym e)
+    by_number : (o : Option ℕ) → number_of names name ≡ o → is_some (number_of names name) ≡ true → number_of names name ≡ Some (numbered names name)
+    by_number None e some = let h = rw e at some in absurd (false≢true h)
+    by_number (Some k) e some = e ∙ ap (λ (o : Option ℕ). Some (unwrap_or o 0)) (sym e)
+
+known_name : (names : List (List ℕ)) (n field : ℕ) (name : List ℕ) → unknown_name names n field name ≡ None → is_among names name ≡ true
+known_name names n field name none = passed (is_among names name) (Unknown n field) none
+
+known_row : (places drivers : List (List ℕ)) (r : Row) → unknown_of places drivers r ≡ None → has_known_places places r ≡ true
+known_row places drivers (row.Leg n from to minutes cents) none =
+    let both = neither (unknown_name places n 2 from) (unknown_name places n 3 to) none in
+    and_from _ _ (known_name places n 2 from both.0) (known_name places n 3 to both.1)
+known_row places drivers (row.Order n name place opens closes service kg price) none = known_name places n 3 place none
+known_row places drivers _ none = refl
+
+-- rows in which no name is unknown name known places
+pub known_places : (places drivers : List (List ℕ)) (rows : List Row) → first_of (unknown_of places drivers) rows ≡ None
+    → each_row (has_known_places places) rows ≡ true
+known_places places drivers [] none = refl
+known_places places drivers (r ∷ rs) none =
+    let parts = neither (unknown_of places drivers r) _ none in
+    and_from _ _ (known_row places drivers r parts.0) (known_places places drivers rs parts.1)
 
 apart_numbers : (names : List (List ℕ)) (p q : List ℕ) (a b : ℕ) → number_of names p ≡ Some a → number_of names q ≡ Some b
     → not (bytes_eq p q) ≡ true → a ≢ b

@@ -11,7 +11,7 @@ use Rattle.week_book.specs.declared.errors.WeekError.TheVariants.{Count, NoDepot
 use Rattle.week_book.specs.Faults.{first_tried}
 use Rattle.week_book.specs.Ranges.{range_fault}
 use Rattle.week_book.specs.Keys.{double_fault}
-use Rattle.week_book.specs.Numbers.{places_of, drivers_of, driver_names, leg_in, order_in, unknown_fault}
+use Rattle.week_book.specs.Numbers.{place_names, drivers_of, driver_names, leg_in, order_in, unknown_fault}
 
 -- a row of that kind
 abbrev pub is_of : What → Row → Bool
@@ -26,7 +26,7 @@ abbrev pub limit_of : What → ℕ
 limit_of Places = 64
 limit_of Legs = 1024
 limit_of Drivers = 16
-limit_of Orders = 40
+limit_of Orders = 120
 
 -- so many of a kind are too many
 abbrev pub too_many : What → ℕ → Option WeekError
@@ -48,7 +48,7 @@ depot_fault rows = if list_any (is_of Places) rows then None else Some NoDepot
 -- the first fault of a week text
 abbrev pub fault_of : List Row → Option WeekError
 fault_of rows = first_tried (counts_fault rows ∷ depot_fault rows ∷ range_fault rows ∷ double_fault rows
-    ∷ unknown_fault (places_of rows) (driver_names rows) rows ∷ [])
+    ∷ unknown_fault (place_names rows) (driver_names rows) rows ∷ [])
 
 -- the week of these rows, the first of which is the week row; other rows are those of no week text
 abbrev pub week_made : List Row → List Row → Result Week WeekError
@@ -57,10 +57,10 @@ week_made rows (row.Week n monday load night grid ∷ rs) = Ok (record {
   load = load;
   night = night;
   grid = grid;
-  places = places_of rows;
-  legs = filter_map (leg_in (places_of rows)) rows;
+  places = place_names rows;
+  legs = filter_map (leg_in (place_names rows)) rows;
   drivers = drivers_of rows;
-  orders = filter_map (order_in (places_of rows)) rows;
+  orders = filter_map (order_in (place_names rows)) rows;
 })
 week_made rows _ = Err NoDepot
 

@@ -1,5 +1,5 @@
 -- What each row adds to a week, with numbers for names, and which names no row defines.
-use Rattle.std.specs.Prelude.{ℕ, nat_abs, Option, Some, None, List, map, filter_map}
+use Rattle.std.specs.Prelude.{ℕ, nat_abs, Bool, true, ◌&&◌, if◌then◌else◌, Option, Some, None, List, map, filter_map}
 use Rattle.std.specs.Option.{option_or, unwrap_or}
 use Rattle.week_book.specs.declared.rows.Row.{Row}
 use Rattle.week_book.specs.declared.rows.Row.TheVariants as row
@@ -8,7 +8,7 @@ use Rattle.week_book.specs.declared.weeks.Order.{Order}
 use Rattle.week_book.specs.declared.weeks.Driver.{Driver}
 use Rattle.week_book.specs.declared.errors.WeekError.{WeekError}
 use Rattle.week_book.specs.declared.errors.WeekError.TheVariants.{Unknown}
-use Rattle.week_book.specs.Names.{number_of}
+use Rattle.week_book.specs.Names.{is_among, number_of}
 use Rattle.week_book.specs.Faults.{first_of}
 
 -- the place of a place row
@@ -20,6 +20,12 @@ place_in _ = None
 abbrev pub driver_in : Row → Option Driver
 driver_in (row.Driver n name capacity fee) = Some (record { name = name; capacity = capacity; fee = fee })
 driver_in _ = None
+
+-- the places that a leg or an order names are among these
+abbrev pub has_known_places : List (List ℕ) → Row → Bool
+has_known_places places (row.Leg n from to minutes cents) = is_among places from && is_among places to
+has_known_places places (row.Order n name place opens closes service kg price) = is_among places place
+has_known_places places _ = true
 
 -- the number of a name that is one of the names
 abbrev pub numbered : List (List ℕ) → List ℕ → ℕ
@@ -46,8 +52,8 @@ order_in places (row.Order n name place opens closes service kg price) =
 order_in places _ = None
 
 -- the places of a text, in the order of their rows
-abbrev pub places_of : List Row → List (List ℕ)
-places_of rows = filter_map place_in rows
+abbrev pub place_names : List Row → List (List ℕ)
+place_names rows = filter_map place_in rows
 
 -- the drivers of a text, in the order of their rows
 abbrev pub drivers_of : List Row → List Driver
@@ -59,11 +65,7 @@ driver_names rows = map (λ driver. driver.name) (drivers_of rows)
 
 -- a name that is none of the names, in that field of that row
 abbrev pub unknown_name : List (List ℕ) → ℕ → ℕ → List ℕ → Option WeekError
-unknown_name names n field name = unless_numbered (number_of names name)
-  where
-    unless_numbered : Option ℕ → Option WeekError
-    unless_numbered None = Some (Unknown n field)
-    unless_numbered (Some number) = None
+unknown_name names n field name = if is_among names name then None else Some (Unknown n field)
 
 -- the first name of a row that is none of the places or none of the drivers that it has to be of
 abbrev pub unknown_of : List (List ℕ) → List (List ℕ) → Row → Option WeekError

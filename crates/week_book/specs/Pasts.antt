@@ -9,7 +9,7 @@ use Rattle.week_book.specs.declared.rows.Word.TheVariants as word
 use Rattle.week_book.specs.Texts.{each_row}
 
 -- a mark word with its minutes, and the row that has them
-pub record Spell : Type 0 where
+pub record Activity : Type 0 where
   pub row : ℕ
   pub word : Word
   pub minutes : ℕ
@@ -20,23 +20,23 @@ pub record Rested : Type 0 where
   pub minutes : ℕ
 
 -- a driver's Drive minutes of last week, and the working minutes of the sixteen weeks before
-pub record Toil : Type 0 where
+pub record PastWorkingTime : Type 0 where
   pub last : ℕ
   pub weeks : List ℕ
 
 -- the past rows of a driver, in order
-abbrev pub past_spells : List ℕ → List Row → List Spell
-past_spells name [] = []
-past_spells name (Past row driver w minutes ∷ rs) =
-    if bytes_eq driver name then record { row = row; word = w; minutes = minutes } ∷ past_spells name rs else past_spells name rs
-past_spells name (_ ∷ rs) = past_spells name rs
+abbrev pub past_activities : List ℕ → List Row → List Activity
+past_activities name [] = []
+past_activities name (Past row driver w minutes ∷ rs) =
+    if bytes_eq driver name then record { row = row; word = w; minutes = minutes } ∷ past_activities name rs else past_activities name rs
+past_activities name (_ ∷ rs) = past_activities name rs
 
 -- the did rows of a driver, in order
-abbrev pub did_spells : List ℕ → List Row → List Spell
-did_spells name [] = []
-did_spells name (Did row driver w minutes ∷ rs) =
-    if bytes_eq driver name then record { row = row; word = w; minutes = minutes } ∷ did_spells name rs else did_spells name rs
-did_spells name (_ ∷ rs) = did_spells name rs
+abbrev pub did_activities : List ℕ → List Row → List Activity
+did_activities name [] = []
+did_activities name (Did row driver w minutes ∷ rs) =
+    if bytes_eq driver name then record { row = row; word = w; minutes = minutes } ∷ did_activities name rs else did_activities name rs
+did_activities name (_ ∷ rs) = did_activities name rs
 
 -- the rest rows of a driver, in order
 abbrev pub rests_of : List ℕ → List Row → List Rested
@@ -46,11 +46,11 @@ rests_of name (Rest row driver end minutes ∷ rs) =
 rests_of name (_ ∷ rs) = rests_of name rs
 
 -- the worked rows of a driver, in order
-abbrev pub toils_of : List ℕ → List Row → List Toil
-toils_of name [] = []
-toils_of name (Worked row driver last weeks ∷ rs) =
-    if bytes_eq driver name then record { last = last; weeks = weeks } ∷ toils_of name rs else toils_of name rs
-toils_of name (_ ∷ rs) = toils_of name rs
+abbrev pub past_working_times_of : List ℕ → List Row → List PastWorkingTime
+past_working_times_of name [] = []
+past_working_times_of name (Worked row driver last weeks ∷ rs) =
+    if bytes_eq driver name then record { last = last; weeks = weeks } ∷ past_working_times_of name rs else past_working_times_of name rs
+past_working_times_of name (_ ∷ rs) = past_working_times_of name rs
 
 -- OFF, DAILY and WEEKLY are off
 abbrev pub is_off_word : Word → Bool
@@ -70,12 +70,12 @@ in_past_range (Did row driver w minutes) = nat_le minutes 10080
 in_past_range _ = true
 
 -- each has a minute
-abbrev pub each_lasts : List Spell → Bool
+abbrev pub each_lasts : List Activity → Bool
 each_lasts [] = true
 each_lasts (s ∷ ss) = nat_le 1 s.minutes && each_lasts ss
 
 -- each has a minute, but for a first one that is off
-abbrev pub zero_first : List Spell → Bool
+abbrev pub zero_first : List Activity → Bool
 zero_first [] = true
 zero_first (s ∷ ss) = (if is_off_word s.word then true else nat_le 1 s.minutes) && each_lasts ss
 
@@ -84,5 +84,5 @@ pub record HasPastRows (rows : List Row) : Type 0 where
   pub few : length rows ≤ 1048576
   pub ranges : each_row in_past_range rows ≡ true
   pub rests : (name : List ℕ) → length (rests_of name rows) ≤ 1
-  pub toils : (name : List ℕ) → length (toils_of name rows) ≤ 1
-  pub zeros : (name : List ℕ) → zero_first (did_spells name rows) ≡ true
+  pub past_works : (name : List ℕ) → length (past_working_times_of name rows) ≤ 1
+  pub zeros : (name : List ℕ) → zero_first (did_activities name rows) ≡ true

@@ -56,7 +56,7 @@ pub record IsWeek (week : Week) : Type 0 where
   pub night : week.night ≤ 1000000
   pub grid : (week.grid ≡ 15) ⊎ ((week.grid ≡ 30) ⊎ (week.grid ≡ 60))
   pub places : (1 ≤ length week.places) × (length week.places ≤ 64)
-  pub few : (length week.legs ≤ 1024) × (length week.drivers ≤ 16) × (length week.orders ≤ 40)
+  pub few : (length week.legs ≤ 1024) × (length week.drivers ≤ 16) × (length week.orders ≤ 120)
   pub legs : All (IsLeg (length week.places)) week.legs
   pub drivers : All IsDriver week.drivers
   pub orders : All (IsOrder (length week.places)) week.orders

@@ -7,14 +7,15 @@ ghost use Rattle.week_book.specs.declared.errors.WeekError.TheVariants.{Memory};
 ghost use Rattle.week_book.specs.Faults.{Passes};
 ghost use Rattle.week_book.specs.Ranges.{keeps_ranges};
 ghost use Rattle.week_book.specs.Texts.{each_row, begins_with_week, are_week_rows};
-ghost use Rattle.week_book.specs.Numbers.{places_of};
+ghost use Rattle.week_book.specs.Numbers.{has_known_places, place_names};
 ghost use Rattle.week_book.specs.Checking.{is_of, limit_of, too_many, count_fault, counts_fault, fault_of, week_made, week_of};
 ghost use Rattle.week_book.specs.Pasts.{HasPastRows};
 ghost use Rattle.week_book.specs.Weeks.{IsWeek};
 
 use crate::errors::{WeekError, What};
 use crate::keys::check_doubles;
-use crate::numbering::{check_names, driver_roll, drivers, legs, orders, place_roll};
+use crate::name_indexes::NameIndex;
+use crate::numbering::{check_names, driver_index, drivers, legs, orders, place_index};
 use crate::ranges::check_ranges;
 use crate::rows::Row;
 use crate::weeks::Week;
@@ -30,7 +31,7 @@ impl What {
             What::Places => 64,
             What::Legs => 1024,
             What::Drivers => 16,
-            What::Orders => 40,
+            What::Orders => 120,
         }
     }
 }
@@ -89,9 +90,11 @@ fn has_depot(rows: &[Row]) -> bool
     rows.iter().any(|row| row.is_of(What::Places))
 }
 
-fn check_rows(alloc: Global, rows: &[Row]) -> Result<(), WeekError>
+/// The places of rows without a fault, by which a week's tables are made.
+fn check_rows<'a>(alloc: Global, rows: &'a [Row]) -> Result<NameIndex<'a>, WeekError>
     requires { length rows.now ≤ 1048576 }
-    ensures { Passes result (fault_of rows.now) }
+    ensures fault { Passes result (fault_of rows.now) }
+    ensures places { IfOk result (λ places. places ≡ place_names rows.now) }
 {
     check_counts(rows)?;
     if !has_depot(rows) {
@@ -99,14 +102,17 @@ fn check_rows(alloc: Global, rows: &[Row]) -> Result<(), WeekError>
     }
     check_ranges(alloc, rows)?;
     check_doubles(alloc, rows)?;
-    let places = place_roll(alloc, rows)?;
-    let drivers = driver_roll(alloc, rows)?;
-    check_names(&places, &drivers, rows)
+    let places = place_index(alloc, rows)?;
+    let drivers = driver_index(alloc, rows)?;
+    check_names(&places, &drivers, rows)?;
+    Ok(places)
 }
 
-fn make_week(alloc: Global, rows: &[Row]) -> Result<Week, WeekError>
-    requires few { length (places_of rows.now) ≤ 64 }
+fn make_week(alloc: Global, rows: &[Row], places: &NameIndex) -> Result<Week, WeekError>
+    requires places { places.now ≡ place_names rows.now }
+    requires few { length places.now ≤ 64 }
     requires ranges { each_row keeps_ranges rows.now ≡ true }
+    requires known { each_row (has_known_places places.now) rows.now ≡ true }
     requires begins { begins_with_week rows.now ≡ true }
     ensures { Gives Memory (λ week. week) result (week_made rows.now rows.now) }
 {
@@ -122,16 +128,15 @@ fn make_week(alloc: Global, rows: &[Row]) -> Result<Week, WeekError>
     else {
         unreachable!()
     };
-    let places = place_roll(alloc, rows)?;
     Ok(Week {
         monday: *monday,
         load: *load as u32,
         night: *night,
         grid: *grid as u32,
         places: places.names(alloc)?,
-        legs: legs(alloc, &places, rows)?,
+        legs: legs(alloc, places, rows)?,
         drivers: drivers(alloc, rows)?,
-        orders: orders(alloc, &places, rows)?,
+        orders: orders(alloc, places, rows)?,
     })
 }
 
@@ -145,6 +150,6 @@ pub fn check_week(alloc: Global, rows: &Many<Row>) -> Result<Week, WeekError>
     ensures rows { OnOk result (HasPastRows rows.now) }
 {
     let rows = rows.as_slice();
-    check_rows(alloc, rows)?;
-    make_week(alloc, rows)
+    let places = check_rows(alloc, rows)?;
+    make_week(alloc, rows, &places)
 }

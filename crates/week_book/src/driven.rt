@@ -10,15 +10,15 @@ ghost use Rattle.week_book.specs.Driven.{meet, driven, did_fault, did_of};
 use crate::checking::check_number;
 use crate::errors::{WeekError, What};
 use crate::keys::check_doubles;
+use crate::name_indexes::NameIndex;
 use crate::numbering::check_names;
 use crate::ranges::check_ranges;
-use crate::rolls::Roll;
 use crate::rows::Row;
 use minute_line::{Many, Name};
 use std::alloc::{AllocError, Global};
 
 /// The names, and that of a `did` row's driver unless it is there.
-fn meet<'a>(names: Roll<'a>, row: &'a Row) -> Result<Roll<'a>, AllocError>
+fn meet<'a>(names: NameIndex<'a>, row: &'a Row) -> Result<NameIndex<'a>, AllocError>
     ensures { IfOk result (λ more. more ≡ meet names.entry row.now) }
 {
     match row {
@@ -33,17 +33,17 @@ fn meet<'a>(names: Roll<'a>, row: &'a Row) -> Result<Roll<'a>, AllocError>
     }
 }
 
-fn driven<'a>(alloc: Global, rows: &'a [Row]) -> Result<Roll<'a>, AllocError>
+fn driven<'a>(alloc: Global, rows: &'a [Row]) -> Result<NameIndex<'a>, AllocError>
     ensures { IfOk result (λ names. names ≡ driven rows.now) }
 {
-    let mut names = Roll::new(alloc);
+    let mut names = NameIndex::new(alloc);
     for row in rows {
         names = meet(names, row)?;
     }
     Ok(names)
 }
 
-fn check_rows(alloc: Global, rows: &[Row], drivers: &Roll) -> Result<(), WeekError>
+fn check_rows(alloc: Global, rows: &[Row], drivers: &NameIndex) -> Result<(), WeekError>
     requires few { length drivers.now < 2 ^ 32 }
     requires drivers { drivers.now ≡ driven rows.now }
     ensures { Passes result (did_fault rows.now) }
@@ -51,7 +51,7 @@ fn check_rows(alloc: Global, rows: &[Row], drivers: &Roll) -> Result<(), WeekErr
     check_number(What::Drivers, drivers.len())?;
     check_ranges(alloc, rows)?;
     check_doubles(alloc, rows)?;
-    let places = Roll::new(alloc);
+    let places = NameIndex::new(alloc);
     check_names(&places, drivers, rows)
 }
 

@@ -3,7 +3,7 @@ ghost use Rattle.std.specs.Prelude.{◌≡◌};
 ghost use Rattle.week_book.specs.declared.errors.WeekError.TheVariants.{Memory as WantOfMemory};
 
 use minute_line::Memory;
-use std::alloc::{AllocError, AllocFailed};
+use std::alloc::AllocError;
 
 /// What a week has a limited number of.
 #[derive(Clone, Copy, PartialEq, Eq, Debug)]
@@ -44,14 +44,6 @@ impl From<AllocError> for WeekError {
     ghost from_gives = { λ _ e. e ≡ WantOfMemory };
 
     fn from(_error: AllocError) -> WeekError {
-        WeekError::Memory
-    }
-}
-
-impl<T: Drop> From<AllocFailed<T>> for WeekError {
-    ghost from_gives = { λ _ e. e ≡ WantOfMemory };
-
-    fn from(_error: AllocFailed<T>) -> WeekError {
         WeekError::Memory
     }
 }

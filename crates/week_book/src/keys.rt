@@ -4,7 +4,7 @@ ghost use Rattle.week_book.specs.Faults.{Passes};
 ghost use Rattle.week_book.specs.Keys.{key_of, keyed_of, repeat_after, double_fault};
 
 use crate::errors::WeekError;
-use crate::rolls::Roll;
+use crate::name_indexes::NameIndex;
 use crate::rows::Row;
 use minute_line::{Bytes, Memory};
 use std::alloc::{AllocError, Global};
@@ -77,7 +77,7 @@ fn keys(alloc: Global, rows: &[Row]) -> Result<Vec<Keyed>, Memory>
 fn first_repeat(alloc: Global, keys: &[Keyed]) -> Result<Option<u32>, AllocError>
     ensures { IfOk result (λ row. row ≡ repeat_after [] keys.now) }
 {
-    let mut seen = Roll::new(alloc);
+    let mut seen = NameIndex::new(alloc);
     for entry in keys {
         let key = entry.key.as_slice();
         if seen.has(key) {

@@ -7,11 +7,11 @@ mod driven;
 mod errors;
 mod keys;
 mod laws;
+mod name_indexes;
 mod names;
 mod numbering;
 mod ranges;
 mod roads;
-mod rolls;
 mod rows;
 #[cfg(test)]
 mod tests;

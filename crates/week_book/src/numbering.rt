@@ -2,52 +2,54 @@
 ghost use Rattle.std.specs.Prelude.{◌≡◌, true, ◌≤◌, length, filter_map, IfOk, nat_abs};
 ghost use Rattle.week_book.specs.Faults.{Passes};
 ghost use Rattle.week_book.specs.Ranges.{keeps_ranges};
+ghost use Rattle.week_book.specs.Names.{is_among};
 ghost use Rattle.week_book.specs.Texts.{each_row};
-ghost use Rattle.week_book.specs.Numbers.{place_in, driver_in, numbered, leg_in, order_in, places_of, drivers_of, driver_names, unknown_name, unknown_of, unknown_fault};
+ghost use Rattle.week_book.specs.Numbers.{place_in, driver_in, has_known_places, numbered, leg_in, order_in, place_names, drivers_of, driver_names, unknown_name, unknown_of, unknown_fault};
 
 use crate::errors::WeekError;
-use crate::rolls::Roll;
+use crate::name_indexes::NameIndex;
 use crate::rows::Row;
 use crate::weeks::{Driver, Leg, Order};
 use minute_line::{Many, Memory, Name};
 use std::alloc::{AllocError, Global};
 
 /// The places of the rows, in order.
-pub fn place_roll<'a>(alloc: Global, rows: &'a [Row]) -> Result<Roll<'a>, AllocError>
-    ensures { IfOk result (λ roll. roll ≡ places_of rows.now) }
+pub fn place_index<'a>(alloc: Global, rows: &'a [Row]) -> Result<NameIndex<'a>, AllocError>
+    ensures { IfOk result (λ name_index. name_index ≡ place_names rows.now) }
 {
-    let mut roll = Roll::new(alloc);
+    let mut name_index = NameIndex::new(alloc);
     for row in rows {
         if let Row::Place { name, .. } = row {
-            roll = roll.with(name.as_slice())?;
+            name_index = name_index.with(name.as_slice())?;
         }
     }
-    Ok(roll)
+    Ok(name_index)
 }
 
 /// The names of the drivers of the rows, in order.
-pub fn driver_roll<'a>(alloc: Global, rows: &'a [Row]) -> Result<Roll<'a>, AllocError>
-    ensures { IfOk result (λ roll. roll ≡ driver_names rows.now) }
+pub fn driver_index<'a>(alloc: Global, rows: &'a [Row]) -> Result<NameIndex<'a>, AllocError>
+    ensures { IfOk result (λ name_index. name_index ≡ driver_names rows.now) }
 {
-    let mut roll = Roll::new(alloc);
+    let mut name_index = NameIndex::new(alloc);
     for row in rows {
         if let Row::Driver { name, .. } = row {
-            roll = roll.with(name.as_slice())?;
+            name_index = name_index.with(name.as_slice())?;
         }
     }
-    Ok(roll)
+    Ok(name_index)
 }
 
-fn unknown_name(names: &Roll, row: u32, field: u32, name: &[u8]) -> Option<WeekError>
+fn unknown_name(names: &NameIndex, row: u32, field: u32, name: &[u8]) -> Option<WeekError>
     ensures { result ≡ unknown_name names.now row field name.now }
 {
-    match names.number(name) {
-        None => Some(WeekError::Unknown(row, field)),
-        Some(_) => None,
+    if names.has(name) {
+        None
+    } else {
+        Some(WeekError::Unknown(row, field))
     }
 }
 
-fn unknown_in(places: &Roll, drivers: &Roll, row: &Row) -> Option<WeekError>
+fn unknown_in(places: &NameIndex, drivers: &NameIndex, row: &Row) -> Option<WeekError>
     ensures { result ≡ unknown_of places.now drivers.now row.now }
 {
     match row {
@@ -64,7 +66,7 @@ fn unknown_in(places: &Roll, drivers: &Roll, row: &Row) -> Option<WeekError>
 }
 
 /// Passes rows whose names are those of places and drivers.
-pub fn check_names(places: &Roll, drivers: &Roll, rows: &[Row]) -> Result<(), WeekError>
+pub fn check_names(places: &NameIndex, drivers: &NameIndex, rows: &[Row]) -> Result<(), WeekError>
     ensures { Passes result (unknown_fault places.now drivers.now rows.now) }
 {
     for row in rows {
@@ -77,19 +79,21 @@ pub fn check_names(places: &Roll, drivers: &Roll, rows: &[Row]) -> Result<(), We
 }
 
 // The number of a name that is one of the names.
-fn numbered(names: &Roll, name: &[u8]) -> u32
-    requires { length names.now ≤ 64 }
+fn numbered(names: &NameIndex, name: &[u8]) -> u32
+    requires few { length names.now ≤ 64 }
+    requires known { is_among names.now name.now ≡ true }
     ensures { result ≡ numbered names.now name.now }
 {
-    match names.number(name) {
-        None => 0,
-        Some(number) => number as u32,
-    }
+    let Some(number) = names.number(name) else {
+        unreachable!()
+    };
+    number as u32
 }
 
-fn leg_in(places: &Roll, row: &Row) -> Option<Leg>
+fn leg_in(places: &NameIndex, row: &Row) -> Option<Leg>
     requires few { length places.now ≤ 64 }
     requires ranges { keeps_ranges row.now ≡ true }
+    requires known { has_known_places places.now row.now ≡ true }
     ensures { result ≡ leg_in places.now row.now }
 {
     match row {
@@ -128,9 +132,10 @@ fn driver_in(alloc: Global, row: &Row) -> Result<Option<Driver>, Memory>
     }
 }
 
-fn order_in(alloc: Global, places: &Roll, row: &Row) -> Result<Option<Order>, Memory>
+fn order_in(alloc: Global, places: &NameIndex, row: &Row) -> Result<Option<Order>, Memory>
     requires few { length places.now ≤ 64 }
     requires ranges { keeps_ranges row.now ≡ true }
+    requires known { has_known_places places.now row.now ≡ true }
     ensures { IfOk result (λ order. order ≡ order_in places.now row.now) }
 {
     match row {
@@ -157,9 +162,10 @@ fn order_in(alloc: Global, places: &Roll, row: &Row) -> Result<Option<Order>, Me
 }
 
 /// The legs of the rows, in order.
-pub fn legs(alloc: Global, places: &Roll, rows: &[Row]) -> Result<Many<Leg>, Memory>
+pub fn legs(alloc: Global, places: &NameIndex, rows: &[Row]) -> Result<Many<Leg>, Memory>
     requires few { length places.now ≤ 64 }
     requires ranges { each_row keeps_ranges rows.now ≡ true }
+    requires known { each_row (has_known_places places.now) rows.now ≡ true }
     ensures { IfOk result (λ legs. legs ≡ filter_map (leg_in places.now) rows.now) }
 {
     let mut legs = Many::new(alloc);
@@ -188,9 +194,10 @@ pub fn drivers(alloc: Global, rows: &[Row]) -> Result<Many<Driver>, Memory>
 }
 
 /// The orders of the rows, in order.
-pub fn orders(alloc: Global, places: &Roll, rows: &[Row]) -> Result<Many<Order>, Memory>
+pub fn orders(alloc: Global, places: &NameIndex, rows: &[Row]) -> Result<Many<Order>, Memory>
     requires few { length places.now ≤ 64 }
     requires ranges { each_row keeps_ranges rows.now ≡ true }
+    requires known { each_row (has_known_places places.now) rows.now ≡ true }
     ensures { IfOk result (λ orders. orders ≡ filter_map (order_in places.now) rows.now) }
 {
     let mut orders = Many::new(alloc);

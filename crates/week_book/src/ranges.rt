@@ -8,8 +8,8 @@ ghost use Rattle.week_book.specs.Texts.{is_week, is_checked};
 ghost use Rattle.week_book.specs.declared.errors.What.TheVariants.{Orders};
 
 use crate::errors::WeekError;
+use crate::name_indexes::NameIndex;
 use crate::names::is_name;
-use crate::rolls::Roll;
 use crate::rows::{Row, Word};
 use std::alloc::{AllocError, Global};
 
@@ -222,7 +222,7 @@ fn outside(begun: bool, row: &Row) -> Option<WeekError>
 }
 
 /// Whether it is a `did` row of one of these drivers.
-fn has_begun(names: &Roll, row: &Row) -> bool
+fn has_begun(names: &NameIndex, row: &Row) -> bool
     ensures { result ≡ has_begun names.now row.now }
 {
     match row {
@@ -232,7 +232,7 @@ fn has_begun(names: &Roll, row: &Row) -> bool
 }
 
 /// The names, and that of a `did` row's driver.
-fn with_did<'a>(names: Roll<'a>, row: &'a Row) -> Result<Roll<'a>, AllocError>
+fn with_did<'a>(names: NameIndex<'a>, row: &'a Row) -> Result<NameIndex<'a>, AllocError>
     ensures { IfOk result (λ more. more ≡ names.entry ++ option_to_list (did_name row.now)) }
 {
     match row {
@@ -245,7 +245,7 @@ fn with_did<'a>(names: Roll<'a>, row: &'a Row) -> Result<Roll<'a>, AllocError>
 pub fn check_ranges(alloc: Global, rows: &[Row]) -> Result<(), WeekError>
     ensures { Passes result (range_fault rows.now) }
 {
-    let mut begun = Roll::new(alloc);
+    let mut begun = NameIndex::new(alloc);
     for row in rows {
         match outside(has_begun(&begun, row), row) {
             Some(fault) => return Err(fault),

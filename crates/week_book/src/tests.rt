@@ -257,7 +257,7 @@ fn rows_of_a_kind_are_counted_first(rt: HostRuntime) -> Result<(), Fail> {
         (Line::Place("HUB"), What::Places, 64),
         (Line::Leg("", "", 0), What::Legs, 1024),
         (Line::Driver("D1"), What::Drivers, 16),
-        (Line::Order("A", "Q", 0, 0), What::Orders, 40),
+        (Line::Order("A", "Q", 0, 0), What::Orders, 120),
     ] {
         let mut rows = Many::new(alloc);
         push_all(alloc, &mut rows, &[Line::Week])?;

@@ -9,7 +9,7 @@ use Rattle.week_book.specs.declared.rows.Row.TheVariants as row
 use Rattle.week_book.specs.Names.{is_name, is_among}
 use Rattle.week_book.specs.Faults.{first_fault}
 use Rattle.week_book.specs.Ranges.{did_name, did_names, is_did_span, fields_in_range, range_of}
-use Rattle.week_book.specs.Pasts.{Spell, is_off_word, each_lasts, zero_first, did_spells}
+use Rattle.week_book.specs.Pasts.{Activity, is_off_word, each_lasts, zero_first, did_activities}
 use Rattle.week_book.proofs.Seen.{among_some, among_none}
 use Rattle.week_book.proofs.Faultless.{neither, none_outside}
 
@@ -34,7 +34,7 @@ first_span true true false begun fits = refl
 first_span true false false begun fits = fits
 first_span false lasts off begun fits = absurd (false≢true fits)
 
-lasts_case : (same : Bool) (mark : Word) (n minutes : ℕ) (begun : Bool) (rest : List Spell) → (same ≡ true → begun ≡ true)
+lasts_case : (same : Bool) (mark : Word) (n minutes : ℕ) (begun : Bool) (rest : List Activity) → (same ≡ true → begun ≡ true)
     → is_did_span begun mark minutes ≡ true → each_lasts rest ≡ true
     → each_lasts (if same then record { row = n; word = mark; minutes = minutes } ∷ rest else rest) ≡ true
 lasts_case true mark n minutes begun rest is_begun fits others =
@@ -42,7 +42,7 @@ lasts_case true mark n minutes begun rest is_begun fits others =
     (subst (λ (b : Bool). is_did_span b mark minutes ≡ true) (is_begun refl) fits)) others
 lasts_case false mark n minutes begun rest is_begun fits others = others
 
-zero_case : (same : Bool) (mark : Word) (n minutes : ℕ) (begun : Bool) (rest : List Spell) → is_did_span begun mark minutes ≡ true
+zero_case : (same : Bool) (mark : Word) (n minutes : ℕ) (begun : Bool) (rest : List Activity) → is_did_span begun mark minutes ≡ true
     → (same ≡ true → each_lasts rest ≡ true) → (same ≡ false → zero_first rest ≡ true)
     → zero_first (if same then record { row = n; word = mark; minutes = minutes } ∷ rest else rest) ≡ true
 zero_case true mark n minutes begun rest fits others later =
@@ -51,13 +51,13 @@ zero_case false mark n minutes begun rest fits others later = later refl
 
 -- once a driver has begun, each did row has a minute
 lasting : (name : List ℕ) (before rows : List Row) → first_fault range_of before rows ≡ None → is_among (did_names before) name ≡ true
-    → each_lasts (did_spells name rows) ≡ true
+    → each_lasts (did_activities name rows) ≡ true
 lasting name before [] none begun = refl
 lasting name before (row.Did n driver mark minutes ∷ rs) none begun =
     let did = row.Did n driver mark minutes in
     let here = neither (range_of before did) _ none in
     let after = among_some did_name before did driver name refl ∙ or_left _ (bytes_eq name driver) begun in
-    lasts_case (bytes_eq driver name) mark n minutes _ (did_spells name rs)
+    lasts_case (bytes_eq driver name) mark n minutes _ (did_activities name rs)
     (λ same. ap (is_among (did_names before)) ((bytes_decides driver name).0 same) ∙ begun)
     (did_fits before n driver mark minutes here.0) (lasting name (before ++ did ∷ []) rs here.1 after)
 lasting name before (r ∷ rs) none begun =
@@ -72,13 +72,13 @@ unlike p q false is new = refl
 
 -- a driver's did rows have a minute each, but for a first one that is off
 pub zeros : (name : List ℕ) (before rows : List Row) → first_fault range_of before rows ≡ None → is_among (did_names before) name ≡ false
-    → zero_first (did_spells name rows) ≡ true
+    → zero_first (did_activities name rows) ≡ true
 zeros name before [] none new = refl
 zeros name before (row.Did n driver mark minutes ∷ rs) none new =
     let did = row.Did n driver mark minutes in
     let here = neither (range_of before did) _ none in
     let after = among_some did_name before did driver name refl in
-    zero_case (bytes_eq driver name) mark n minutes _ (did_spells name rs) (did_fits before n driver mark minutes here.0)
+    zero_case (bytes_eq driver name) mark n minutes _ (did_activities name rs) (did_fits before n driver mark minutes here.0)
     (λ same. lasting name (before ++ did ∷ []) rs here.1 (after ∙ or_right _ _ (flipped driver name same)))
     (λ other. zeros name (before ++ did ∷ []) rs here.1 (after ∙ or_from _ _ new (unlike driver name (bytes_eq name driver) refl other)))
 zeros name before (r ∷ rs) none new =

@@ -4,7 +4,7 @@ use Rattle.std.specs.BTreeMap as tree
 use Rattle.std.specs.Cmp.Lexicographic.{slice_cmp}
 use Rattle.std.specs.Ordering.{nat_cmp}
 use Rattle.week_book.proofs.Maps.{set_new, set_old}
-use Rattle.week_book.proofs.rolls.enter.Goals as goal
+use Rattle.week_book.proofs.name_indexes.enter.Goals as goal
 
 pub returns-then-contains_key : goal.returns-then-contains_key
 returns-then-contains_key c = λ q.

@@ -14,16 +14,16 @@ use std::marker::Model;
 
 /// Names in order, with a map to their numbers. Contracts see it as the names.
 #[derive(Drop)]
-pub struct Roll<'a> {
+pub struct NameIndex<'a> {
     names: Vec<&'a [u8]>,
     numbers: BTreeMap<&'a [u8], usize>,
     ghost numbered: { (q : List ℕ) → tree.get_by (λ k. slice_cmp nat_cmp q k.now) numbers ≡ number_of (map (λ n. n.now) names.items) q },
 }
 
-impl<'a> Model for Roll<'a> {
+impl<'a> Model for NameIndex<'a> {
     ghost Value = { List (List ℕ) };
 
-    ghost view = { λ roll. map (λ n. n.now) roll.names.items };
+    ghost view = { λ name_index. map (λ n. n.now) name_index.names.items };
 }
 
 /// Gives a name that number, unless it has one.
@@ -43,29 +43,29 @@ fn enter<'a>(
     Ok(())
 }
 
-impl<'a> Roll<'a> {
+impl<'a> NameIndex<'a> {
     /// No names, which take no memory.
-    pub fn new(alloc: Global) -> Roll<'a>
+    pub fn new(alloc: Global) -> NameIndex<'a>
         ensures { result ≡ [] }
     {
-        Roll {
+        NameIndex {
             names: Vec::new(alloc),
             numbers: BTreeMap::new(alloc),
         }
     }
 
     /// The names with one more at the end. A name that is there keeps its number.
-    pub fn with(self, name: &'a [u8]) -> Result<Roll<'a>, AllocError>
-        ensures { IfOk result (λ roll. roll ≡ self.entry ++ name.now ∷ []) }
+    pub fn with(self, name: &'a [u8]) -> Result<NameIndex<'a>, AllocError>
+        ensures { IfOk result (λ name_index. name_index ≡ self.entry ++ name.now ∷ []) }
     {
-        let Roll {
+        let NameIndex {
             mut names,
             mut numbers,
         } = self;
         let number = names.len();
         names.push(name)?;
         enter(&mut numbers, name, number)?;
-        Ok(Roll { names, numbers })
+        Ok(NameIndex { names, numbers })
     }
 
     /// How many names there are.

@@ -4,7 +4,7 @@ use Rattle.std.specs.Option.{option_or}
 use Rattle.std.specs.Str.{bytes_eq}
 use Rattle.week_book.specs.Names.{number_of}
 use Rattle.week_book.proofs.Maps.{number_more}
-use Rattle.week_book.proofs.rolls.Roll.with.Goals as goal
+use Rattle.week_book.proofs.name_indexes.NameIndex.with.Goals as goal
 
 pub invariant_of-result : goal.invariant_of-result
 invariant_of-result c = (

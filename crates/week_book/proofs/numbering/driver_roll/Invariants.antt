@@ -1,6 +1,0 @@
-use Rattle.std.proofs.Common.{◌≡◌, ◌++◌, drop}
-use Rattle.week_book.specs.Numbers.{driver_names}
-use Rattle.week_book.proofs.numbering.driver_roll.Given as goal
-
-abbrev pub invariant-loop-row : goal.invariant-loop-row
-invariant-loop-row l = l.roll ++ driver_names (drop l.row-index l.rows) ≡ driver_names l.rows
