@@ -3,9 +3,9 @@ use Rattle.std.proofs.Common.{◌≡◌, ℕ, List, ◌++◌, Option, None, Some
 use Rattle.std.proofs.Common.{◌+◌, ◌-◌, ◌≤◌, take, drop, length, arith, drop-drop, length-append}
 use Rattle.std.proofs.lemmas.List.{length-take, take_at, take-append-drop}
 use Rattle.std.proofs.Math.ListN.{length-drop}
-use Rattle.desk_io.specs.Device.{Gives, Takes}
+use Rattle.desk_io.specs.Device.{GivesBytes, Takes}
 
-pub gives_more : (before middle after : Option (List ℕ)) (xs ys : List ℕ) → Gives before xs middle → Gives middle ys after → Gives before (xs ++ ys) after
+pub gives_more : (before middle after : Option (List ℕ)) (xs ys : List ℕ) → GivesBytes before xs middle → GivesBytes middle ys after → GivesBytes before (xs ++ ys) after
 gives_more before middle None xs ys one two = rw (one, two) refl
 gives_more before middle (Some rest) xs ys one two = rw (one, two) (ap Some (sym (append_assoc xs ys rest)))
 

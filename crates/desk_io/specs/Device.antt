@@ -1,13 +1,13 @@
 -- What happens to the bytes that are left or held, where they are told, and to a count of faults.
-use Rattle.std.specs.Prelude.{◌≡◌, ℕ, ◌<◌, ◌⊎◌, List, [], ◌++◌, Option, IfSome, option_map}
+use Rattle.std.specs.Prelude.{◌≡◌, ℕ, ◌+◌, min, List, [], ◌++◌, Option, IfSome, option_map}
 
--- a count that never falls is larger than before, or stands at its last value
-abbrev pub Rose : ℕ → ℕ → Type 0
-Rose before after = (before < after) ⊎ (after ≡ 18446744073709551615)
+-- one more, or the last value of a counter, at which it stands
+abbrev pub counted_up : ℕ → ℕ
+counted_up n = min (n + 1) 18446744073709551615
 
 -- the first bytes left are given, and the others are left; whether that is told does not change
-abbrev pub Gives : Option (List ℕ) → List ℕ → Option (List ℕ) → Type 0
-Gives before given after = before ≡ option_map (λ rest. given ++ rest) after
+abbrev pub GivesBytes : Option (List ℕ) → List ℕ → Option (List ℕ) → Type 0
+GivesBytes before given after = before ≡ option_map (λ rest. given ++ rest) after
 
 -- nothing is left, where that is told
 abbrev pub NothingLeft : Option (List ℕ) → Type 0

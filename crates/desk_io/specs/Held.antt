@@ -1,7 +1,7 @@
 -- What the sink in memory answers, and what it is afterwards.
 use Rattle.std.specs.Prelude.{◌≡◌, ℕ, ◌+◌, ◌==◌, ◌||◌, Bool, List, ◌++◌, [], take, length, min, if◌then◌else◌}
 use Rattle.std.specs.List.{list_any}
-use Rattle.desk_io.specs.Memory.{counted_up}
+use Rattle.desk_io.specs.Device.{counted_up}
 use Rattle.desk_io.specs.declared.device.Put.{Put}
 use Rattle.desk_io.specs.declared.device.Put.TheVariants as put
 use Rattle.desk_io.specs.declared.memory.MemorySink.{MemorySink}
@@ -19,11 +19,6 @@ abbrev pub taken : List ℕ → Put → List ℕ
 taken bytes (put.Took n) = take n bytes
 taken bytes put.Failed = []
 
--- how many writes failed, after an answer
-abbrev pub faulted : ℕ → Put → ℕ
-faulted faults (put.Took n) = faults
-faulted faults put.Failed = counted_up faults
-
 -- the sink after a write: the call is counted, and all else that the answer does not change stays
 pub record WroteTo (old new : MemorySink) (bytes : List ℕ) (answer : Put) : Type 0 where
   pub held : new.held.items ≡ old.held.items ++ taken bytes answer
@@ -31,4 +26,3 @@ pub record WroteTo (old new : MemorySink) (bytes : List ℕ) (answer : Put) : Ty
   pub piece : new.piece ≡ old.piece
   pub calls : new.calls ≡ counted_up old.calls
   pub fails : new.fails ≡ old.fails
-  pub faults : new.faults ≡ faulted old.faults answer

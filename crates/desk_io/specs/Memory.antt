@@ -1,13 +1,10 @@
 -- What the source in memory answers, and what it is afterwards.
 use Rattle.std.specs.Prelude.{◌≡◌, ℕ, ◌+◌, ◌-◌, ◌==◌, Bool, List, length, drop, min, if◌then◌else◌}
 use Rattle.std.specs.List.{list_any}
+use Rattle.desk_io.specs.Device.{counted_up}
 use Rattle.desk_io.specs.declared.device.Got.{Got}
 use Rattle.desk_io.specs.declared.device.Got.TheVariants as got
 use Rattle.desk_io.specs.declared.memory.MemorySource.{MemorySource}
-
--- one more, or the last value of a counter
-abbrev pub counted_up : ℕ → ℕ
-counted_up n = min (n + 1) 18446744073709551615
 
 -- the bytes that the source has left
 abbrev pub bytes_left : MemorySource → List ℕ
@@ -29,12 +26,6 @@ moved at (got.Bytes n) = at + n
 moved at got.End = at
 moved at got.Failed = at
 
--- how many reads failed, after an answer
-abbrev pub faulted : ℕ → Got → ℕ
-faulted faults (got.Bytes n) = faults
-faulted faults got.End = faults
-faulted faults got.Failed = counted_up faults
-
 -- the source after a read: the call is counted, and all else that the answer does not change stays
 pub record ReadFrom (old new : MemorySource) (answer : Got) : Type 0 where
   pub bytes : new.bytes ≡ old.bytes
@@ -42,4 +33,3 @@ pub record ReadFrom (old new : MemorySource) (answer : Got) : Type 0 where
   pub piece : new.piece ≡ old.piece
   pub calls : new.calls ≡ counted_up old.calls
   pub fails : new.fails ≡ old.fails
-  pub faults : new.faults ≡ faulted old.faults answer

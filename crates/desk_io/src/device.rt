@@ -1,6 +1,6 @@
 // What bytes come from and go to. Contracts see what is left or held, where that is told, and a count of faults.
-ghost use Rattle.std.specs.Prelude.{ℕ, ◌<◌, ◌≤◌, List, length, Option};
-ghost use Rattle.desk_io.specs.Calls.{CountsReadFault, CountsWriteFault, Reads, Writes};
+ghost use Rattle.std.specs.Prelude.{◌≡◌, ℕ, ◌<◌, ◌≤◌, List, length, Option};
+ghost use Rattle.desk_io.specs.Calls.{failed_reads, failed_writes, Reads, Writes};
 
 /// What a read answers.
 #[derive(Clone, Copy, Debug, PartialEq, Eq)]
@@ -27,14 +27,14 @@ pub trait Source {
     /// The bytes that it has left, or none where it tells nothing of them.
     ghost left: { Self → Option (List ℕ) };
 
-    /// How many of its calls failed. It never falls.
+    /// How many of its reads failed. A failed read counts one, up to the last value, and no other counts.
     ghost faults: { Self → ℕ };
 
     /// Gives bytes into the buffer, as many as one call can. A call that fails gives none.
     fn read(&mut self, buf: &mut [u8]) -> Got
         requires { 0 < length buf.old }
         ensures bytes { Reads (left self.old) buf.new result (left self.new) }
-        ensures cause { CountsReadFault result (faults self.old) (faults self.new) }
+        ensures counts { faults self.new ≡ failed_reads (faults self.old) result }
         ensures counted { faults self.old ≤ faults self.new };
 }
 
@@ -43,13 +43,13 @@ pub trait Sink {
     /// The bytes that it holds, or none where it tells nothing of them.
     ghost held: { Self → Option (List ℕ) };
 
-    /// How many of its calls failed. It never falls.
+    /// How many of its writes failed. A failed write counts one, up to the last value, and no other counts.
     ghost faults: { Self → ℕ };
 
     /// Appends bytes, as many as one call can. A call that fails appends none.
     fn write(&mut self, bytes: &[u8]) -> Put
         requires { 0 < length bytes.now }
         ensures bytes { Writes (held self.old) bytes.now result (held self.new) }
-        ensures cause { CountsWriteFault result (faults self.old) (faults self.new) }
+        ensures counts { faults self.new ≡ failed_writes (faults self.old) result }
         ensures counted { faults self.old ≤ faults self.new };
 }

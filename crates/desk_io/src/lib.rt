@@ -2,6 +2,7 @@
 #![tactic(auto)]
 
 mod device;
+mod link;
 mod memory;
 mod stream;
 #[cfg(test)]
@@ -9,6 +10,7 @@ mod tests;
 mod whole;
 
 pub use device::{Got, Put, Sink, Source};
+pub use link::Link;
 pub use memory::{MemorySink, MemorySource, memory_sink};
 pub use stream::{StdSink, StdSource};
 pub use whole::{READ_PIECE, ReadError, SinkFault, read_all, write_all};

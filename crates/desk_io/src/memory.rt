@@ -1,6 +1,6 @@
 // Sources and sinks in memory, which tell all. Some of their calls fail, as they are told to.
-ghost use Rattle.std.specs.Prelude.{◌≡◌, ℕ, ◌+◌, ◌++◌, vec_len, vec_capacity, ◌<◌, ◌≤◌, List, [], length, Option, Some, IfOk};
-ghost use Rattle.desk_io.specs.Calls.{CountsReadFault, CountsWriteFault, Reads, Writes};
+ghost use Rattle.std.specs.Prelude.{◌≡◌, ◌+◌, ◌++◌, vec_len, vec_capacity, ◌<◌, ◌≤◌, [], length, Some, IfOk};
+ghost use Rattle.desk_io.specs.Calls.{failed_reads, failed_writes, Reads, Writes};
 
 use crate::device::{Got, Put, Sink, Source};
 use minute_line::{Bytes, Many, Memory};
@@ -37,7 +37,7 @@ impl Source for MemorySource {
     fn read(&mut self, buf: &mut [u8]) -> Got
         requires { 0 < length buf.old }
         ensures bytes { Reads (Some (bytes_left self.old)) buf.new result (Some (bytes_left self.new)) }
-        ensures cause { CountsReadFault result self.old.faults self.new.faults }
+        ensures counts { self.new.faults ≡ failed_reads self.old.faults result }
         ensures counted { self.old.faults ≤ self.new.faults }
         ensures answer { result ≡ read_answer self.old (length buf.old) }
         ensures after { ReadFrom self.old self.new result }
@@ -112,7 +112,7 @@ impl Sink for MemorySink {
     fn write(&mut self, bytes: &[u8]) -> Put
         requires { 0 < length bytes.now }
         ensures bytes { Writes (Some self.old.held.items) bytes.now result (Some self.new.held.items) }
-        ensures cause { CountsWriteFault result self.old.faults self.new.faults }
+        ensures counts { self.new.faults ≡ failed_writes self.old.faults result }
         ensures counted { self.old.faults ≤ self.new.faults }
         ensures answer { result ≡ write_answer self.old (length bytes.now) }
         ensures after { WroteTo self.old self.new bytes.now result }

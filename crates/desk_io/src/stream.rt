@@ -1,6 +1,6 @@
 // std's readers and writers as sources and sinks. Nothing is told of their bytes.
-ghost use Rattle.std.specs.Prelude.{None, ◌<◌, ◌≤◌, length};
-ghost use Rattle.desk_io.specs.Calls.{CountsReadFault, CountsWriteFault, Reads, Writes};
+ghost use Rattle.std.specs.Prelude.{◌≡◌, None, ◌<◌, ◌≤◌, length};
+ghost use Rattle.desk_io.specs.Calls.{failed_reads, failed_writes, Reads, Writes};
 ghost use Rattle.desk_io.specs.Streams.{HandsOn, PassesOn};
 
 use crate::device::{Got, Put, Sink, Source};
@@ -23,7 +23,7 @@ impl<R: Read> Source for StdSource<R> {
     fn read(&mut self, buf: &mut [u8]) -> Got
         requires { 0 < length buf.old }
         ensures bytes { Reads None buf.new result None }
-        ensures cause { CountsReadFault result self.old.faults self.new.faults }
+        ensures counts { self.new.faults ≡ failed_reads self.old.faults result }
         ensures counted { self.old.faults ≤ self.new.faults }
         ensures passed { PassesOn (R.remaining self.old.inner) buf.new result (R.remaining self.new.inner) }
     {
@@ -56,7 +56,7 @@ impl<W: Write> Sink for StdSink<W> {
     fn write(&mut self, bytes: &[u8]) -> Put
         requires { 0 < length bytes.now }
         ensures bytes { Writes None bytes.now result None }
-        ensures cause { CountsWriteFault result self.old.faults self.new.faults }
+        ensures counts { self.new.faults ≡ failed_writes self.old.faults result }
         ensures counted { self.old.faults ≤ self.new.faults }
         ensures passed { HandsOn (W.contents self.old.inner) bytes.now result (W.contents self.new.inner) }
     {

@@ -119,6 +119,46 @@ fn all_that_std_gives_is_read_and_written(rt: HostRuntime) -> Result<(), Fail> {
     Ok(())
 }
 
+// A writer that takes one byte a call, and writes it at its place in the text.
+#[derive(Drop)]
+struct Slow {
+    bytes: [u8; 50],
+    at: usize,
+}
+
+impl Write for Slow {
+    fn write(&mut self, buf: &[u8]) -> io::Result<usize> {
+        match (buf.first(), self.bytes.get_mut(self.at)) {
+            (Some(byte), Some(place)) => {
+                *place = *byte;
+                self.at += 1;
+                Ok(1)
+            }
+            _ => Ok(0),
+        }
+    }
+
+    fn flush(&mut self) -> io::Result<()> {
+        Ok(())
+    }
+}
+
+#[test]
+fn a_writer_of_one_byte_a_call_gets_each_byte_once(rt: HostRuntime) {
+    let mut sink = StdSink {
+        inner: Slow {
+            bytes: [0; 50],
+            at: 0,
+        },
+        faults: 0,
+    };
+    assert!(rt; write_all(&mut sink, TEXT).is_ok());
+    assert!(rt; sink.inner.bytes.as_slice() == TEXT);
+    assert_eq!(rt; (sink.inner.at, sink.faults), (50, 0));
+    assert_eq!(rt; write_all(&mut sink, b"x"), Err(SinkFault));
+    assert_eq!(rt; (sink.inner.at, sink.faults), (50, 1));
+}
+
 // A writer that takes each byte, and whose flush fails.
 #[derive(Drop)]
 struct Stuck;
@@ -143,4 +183,23 @@ fn a_failed_flush_is_a_fault(rt: HostRuntime) {
     assert_eq!(rt; sink.faults, u64::MAX);
     assert_eq!(rt; write_all(&mut sink, TEXT), Err(SinkFault));
     assert_eq!(rt; sink.faults, u64::MAX);
+}
+
+#[test]
+fn a_link_reads_its_source_and_writes_its_sink(rt: HostRuntime) -> Result<(), Fail> {
+    let mut link = Link {
+        source: StdSource {
+            inner: TEXT,
+            faults: 3,
+        },
+        sink: memory_sink(rt.alloc(), 70, 20, Many::from_slice(rt.alloc(), &[4])?)
+            .ok()
+            .ok_or("memory")?,
+    };
+    let bytes = read_all(rt.alloc(), &mut link, 50).ok().ok_or("read")?;
+    assert!(rt; write_all(&mut link, bytes.as_slice()).is_ok());
+    assert_eq!(rt; write_all(&mut link, b"x"), Err(SinkFault));
+    assert!(rt; link.sink.held.as_slice() == TEXT);
+    assert_eq!(rt; (link.source.faults, link.sink.faults), (3, 1));
+    Ok(())
 }

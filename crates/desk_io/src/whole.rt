@@ -1,7 +1,7 @@
 // A source read to its end, and bytes written to the last.
-ghost use Rattle.std.specs.Prelude.{◌≡◌, ℕ, ◌<◌, ◌≤◌, List, take, length, OnOk, OnErr, IsErrOf};
-ghost use Rattle.desk_io.specs.Device.{Rose, Gives, Takes, NothingLeft};
-ghost use Rattle.desk_io.specs.Whole.{ReadsUpTo};
+ghost use Rattle.std.specs.Prelude.{◌≡◌, ℕ, ◌<◌, ◌≤◌, List, take, length, OnOk, OnErr};
+ghost use Rattle.desk_io.specs.Device.{GivesBytes, Takes, NothingLeft};
+ghost use Rattle.desk_io.specs.Whole.{ReadsUpTo, failed_by_end, failed_by_last};
 ghost use Rattle.desk_io.specs.declared.whole.ReadError.TheVariants.{Memory as WantOfMemory};
 
 use crate::device::{Got, Put, Sink, Source};
@@ -36,10 +36,10 @@ pub const READ_PIECE: usize = 65_536;
 
 /// All bytes that the source has left, where they are at most `limit`. It reads no further once more were given.
 pub fn read_all<S: Source>(alloc: Global, source: &mut S, limit: usize) -> Result<Bytes, ReadError>
-    ensures given { (given : List ℕ) × Gives (S.left source.old) given (S.left source.new)
+    ensures given { (given : List ℕ) × GivesBytes (S.left source.old) given (S.left source.new)
         × ReadsUpTo limit given result }
     ensures end { OnOk result (NothingLeft (S.left source.new)) }
-    ensures cause { IsErrOf result ReadError.Fault → Rose (S.faults source.old) (S.faults source.new) }
+    ensures counts { S.faults source.new ≡ failed_by_end (S.faults source.old) result }
     ensures counted { S.faults source.old ≤ S.faults source.new }
 {
     let mut bytes = Many::new(alloc);
@@ -63,7 +63,7 @@ pub fn write_all<K: Sink>(sink: &mut K, bytes: &[u8]) -> Result<(), SinkFault>
     ensures ok { OnOk result (Takes (K.held sink.old) bytes.now (K.held sink.new)) }
     ensures err { OnErr result ((n : ℕ) × (n < length bytes.now)
         × Takes (K.held sink.old) (take n bytes.now) (K.held sink.new)) }
-    ensures cause { OnErr result (Rose (K.faults sink.old) (K.faults sink.new)) }
+    ensures counts { K.faults sink.new ≡ failed_by_last (K.faults sink.old) result }
     ensures counted { K.faults sink.old ≤ K.faults sink.new }
 {
     let mut at = 0;
