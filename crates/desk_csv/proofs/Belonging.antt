@@ -5,6 +5,7 @@ use Rattle.std.proofs.lemmas.Bool.{and_from, eq-eqb}
 use Rattle.minute_line.specs.declared.dates.Monday.{Monday}
 use Rattle.week_book.specs.declared.rows.Row.{Row}
 use Rattle.week_book.specs.declared.rows.Row.TheVariants as row
+use Rattle.week_book.specs.Faults.{row_number}
 use Rattle.week_book.specs.Texts.{is_week, is_planned, is_checked, each_row, begins_with_week}
 use Rattle.desk_csv.specs.declared.errors.Form.{Form}
 use Rattle.desk_csv.specs.declared.errors.Form.TheVariants.{Plan, Check}
@@ -14,7 +15,7 @@ use Rattle.desk_csv.specs.declared.errors.CsvError.TheVariants.{Memory}
 use Rattle.minute_line.specs.Answers.{Gives}
 use Rattle.desk_csv.specs.Fields.{Record, ◌>>=◌, field, counted, number_at, numbers_at, monday_at, stamp_at}
 use Rattle.desk_csv.specs.RowKinds.{week_at, place_at, leg_at, driver_at, rest_at, worked_at, marked_at, past_at, did_at, order_at, own_row_at, row_at}
-use Rattle.desk_csv.specs.Reading.{row_number, first_monday, rows_from, rows_in, are_rows, are_numbered}
+use Rattle.desk_csv.specs.Reading.{first_monday, rows_from, rows_in, are_rows, are_numbered}
 use Rattle.desk_csv.proofs.Begun.{bind_ok, ok_same}
 
 -- a value that was read has the property

@@ -26,10 +26,11 @@ BytesReader = Reader (Bor (List ℕ))
 abbrev pub known : Bor (List ℕ) → Option (List ℕ)
 known s = Some s.now
 
--- the reader reads records as they stand, and what it has left is known
+-- the reader reads records of any length as they stand, and what it has left is known
 pub record Reads (reader : BytesReader) (left : List ℕ) : Type 0 where
   pub config : reader.config ≡ default_config
   pub trim : reader.trim ≡ trim.None
+  pub flexible : reader.flexible ≡ true
   pub ready : Ready reader
   pub source : source_of known reader ≡ Some left
 
@@ -59,24 +60,22 @@ pub record Found (old new : BytesReader) (y : List ℕ) (fields : Record) : Type
   pub read : ReadRecord known old new true fields
   pub took : new.first ≡ true
 
-pub found_record : (old new : BytesReader) (y : List ℕ) (fields : Record) → Reads old y → ReadRecord known old new true fields → new.first ≡ true → Found old new y fields
-found_record old new y fields reads r took =
+pub found_record : (old new : BytesReader) (y : List ℕ) (fields : Record) → Reads old y → ReadRecord known old new true fields → new.first ≡ true → new.flexible ≡ true → Found old new y fields
+found_record old new y fields reads r took flexible =
     let p = next_known old.state new.state y (pending_of (known new.rdr) new) fields (rw (reads.config, reads.source) at r.0) in
     record {
       next = p.0;
       is = p.1;
       same = p.2;
-      reads = record { config = r.2 ∙ reads.config; trim = r.3 ∙ reads.trim; ready = inl took; source = rw r.1 p.4 };
+      reads = record { config = r.2 ∙ reads.config; trim = r.3 ∙ reads.trim; flexible = flexible; ready = inl took; source = rw r.1 p.4 };
       read = r;
       took = took;
     }
 
 -- what a call that reads a record says, once it found one
 pub found_next : (form : Form) (text : List ℕ) (old new : BytesReader) (first : Option Monday) (rows : List Row) (fields : Record) (is : Bool)
-    → (h : Stands form text old first rows) → (old.trim ≡ trim.None → Ready old → ReadRecord known old new is fields)
-    → (old.trim ≡ trim.None → new.first ≡ true) → is ≡ true → Found old new h.left fields
-found_next form text old new first rows fields is h reads took is_found =
-    found_record old new h.left fields h.reads (rw is_found at (reads h.reads.trim h.reads.ready)) (took h.reads.trim)
+    → (h : Stands form text old first rows) → ReadRecord known old new is fields → new.first ≡ true → new.flexible ≡ true → is ≡ true → Found old new h.left fields
+found_next form text old new first rows fields is h read took flexible is_found = found_record old new h.left fields h.reads (rw is_found at read) took flexible
 
 strip_le : (text : List ℕ) → length (strip_bom text) ≤ length text
 unfolding strip_bom
@@ -118,7 +117,7 @@ stands_more form text old new first rows fields monday row h found at is =
       past = h.past ++ fields ∷ [];
       left = m.0;
       begun = begun_more form h.past rows first fields monday row h.begun at (rw (begun_length form h.past rows first h.begun) at is);
-      reads = record { config = found.reads.config; trim = found.reads.trim; ready = found.reads.ready; source = m.1 };
+      reads = record { config = found.reads.config; trim = found.reads.trim; flexible = found.reads.flexible; ready = found.reads.ready; source = m.1 };
       reached = m.2;
     }
 
@@ -140,16 +139,16 @@ stands_fault form text old new first rows fields monday e h found is bad =
 
 -- all records were read
 pub stands_all : (form : Form) (text : List ℕ) (old new : BytesReader) (monday : Monday) (rows : List Row) (fields : Record)
-    (is : Bool) → Stands form text old (Some monday) rows → (old.trim ≡ trim.None → Ready old → ReadRecord known old new is fields) → is ≡ false
+    (is : Bool) → Stands form text old (Some monday) rows → ReadRecord known old new is fields → is ≡ false
     → rows_in form (records_of text) ≡ Ok rows
 stands_all form text old new monday rows fields is h reads none_found =
-    let none = rows-end known old new fields default_config h.left h.reads.config h.reads.source (rw none_found at (reads h.reads.trim h.reads.ready)) in
+    let none = rows-end known old new fields default_config h.left h.reads.config h.reads.source (rw none_found at reads) in
     rw (all_read old.state (strip_bom text) h.left h.past h.reached none) (begun_all form h.past rows monday h.begun)
 
 -- there was none
 pub stands_none : (form : Form) (text : List ℕ) (old new : BytesReader) (rows : List Row) (fields : Record)
-    (is : Bool) → Stands form text old None rows → (old.trim ≡ trim.None → Ready old → ReadRecord known old new is fields) → is ≡ false
+    (is : Bool) → Stands form text old None rows → ReadRecord known old new is fields → is ≡ false
     → rows_in form (records_of text) ≡ Err (fault.Word 1)
 stands_none form text old new rows fields is h reads none_found =
-    let none = rows-end known old new fields default_config h.left h.reads.config h.reads.source (rw none_found at (reads h.reads.trim h.reads.ready)) in
+    let none = rows-end known old new fields default_config h.left h.reads.config h.reads.source (rw none_found at reads) in
     rw (all_read old.state (strip_bom text) h.left h.past h.reached none) (begun_none form h.past rows h.begun)

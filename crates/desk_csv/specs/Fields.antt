@@ -36,12 +36,12 @@ digits_from n [] = Some n
 digits_from n (b ∷ bs) = if is_in_range 48 57 b then digits_from (10 * n + (b - 48)) bs else None
 
 -- a number is 1 to 10 ASCII digits
-unfoldable pub number_of : List ℕ → Option ℕ
-number_of text = if is_in_range 1 10 (length text) then digits_from 0 text else None
+unfoldable pub digits_number : List ℕ → Option ℕ
+digits_number text = if is_in_range 1 10 (length text) then digits_from 0 text else None
 
 -- the number in a field
 unfoldable pub number_at : ℕ → ℕ → Record → Result ℕ CsvError
-number_at row n fields = ok_or (number_of (field n fields)) (fault.Number row n)
+number_at row n fields = ok_or (digits_number (field n fields)) (fault.Number row n)
 
 -- the numbers in so many fields, from one on
 unfoldable pub numbers_at : ℕ → ℕ → ℕ → Record → Result (List ℕ) CsvError

@@ -5,7 +5,7 @@ use Rattle.std.specs.Str.Lossy.{utf8_valid_len}
 use Rattle.csv.specs.Reading.{default_config, records, strip_bom}
 use Rattle.minute_line.specs.declared.dates.Monday.{Monday}
 use Rattle.week_book.specs.declared.rows.Row.{Row}
-use Rattle.week_book.specs.declared.rows.Row.TheVariants as row
+use Rattle.week_book.specs.Faults.{row_number}
 use Rattle.week_book.specs.Texts.{are_week_rows, are_check_rows}
 use Rattle.desk_csv.specs.declared.errors.Form.{Form}
 use Rattle.desk_csv.specs.declared.errors.Form.TheVariants.{Plan, Check}
@@ -47,18 +47,6 @@ rows_of form text = if is_utf8 text then rows_in form (records_of text) else Err
 abbrev pub are_rows : Form → List Row → Bool
 are_rows Plan rows = are_week_rows rows
 are_rows Check rows = are_check_rows rows
-
--- the number of a row
-abbrev pub row_number : Row → ℕ
-row_number (row.Week n monday load night grid) = n
-row_number (row.Place n name) = n
-row_number (row.Leg n from to minutes cents) = n
-row_number (row.Driver n name capacity fee) = n
-row_number (row.Rest n driver end minutes) = n
-row_number (row.Worked n driver last weeks) = n
-row_number (row.Past n driver said minutes) = n
-row_number (row.Did n driver said minutes) = n
-row_number (row.Order n name place opens closes service kg price) = n
 
 -- the rows are numbered from n
 abbrev pub are_numbered : ℕ → List Row → Bool

@@ -3,7 +3,6 @@ ghost use Rattle.std.specs.Prelude.{◌≡◌};
 ghost use Rattle.desk_csv.specs.declared.errors.CsvError.TheVariants.{Memory as WantOfMemory};
 
 use minute_line::Memory;
-use std::alloc::{AllocError, AllocFailed};
 
 /// Which words the rows of a text may begin with.
 #[derive(Clone, Copy, PartialEq, Eq, Debug)]
@@ -35,22 +34,6 @@ impl From<Memory> for CsvError {
     ghost from_gives = { λ _ e. e ≡ WantOfMemory };
 
     fn from(_error: Memory) -> CsvError {
-        CsvError::Memory
-    }
-}
-
-impl From<AllocError> for CsvError {
-    ghost from_gives = { λ _ e. e ≡ WantOfMemory };
-
-    fn from(_error: AllocError) -> CsvError {
-        CsvError::Memory
-    }
-}
-
-impl<T: Drop> From<AllocFailed<T>> for CsvError {
-    ghost from_gives = { λ _ e. e ≡ WantOfMemory };
-
-    fn from(_error: AllocFailed<T>) -> CsvError {
         CsvError::Memory
     }
 }

@@ -3,7 +3,7 @@ ghost use Rattle.std.specs.Prelude.{◌≡◌, ℕ, ◌+◌, ◌≤◌, ◌<◌,
 ghost use Rattle.csv.specs.Records.{fields_of};
 ghost use Rattle.minute_line.specs.Answers.{Gives};
 ghost use Rattle.desk_csv.specs.declared.errors.CsvError.TheVariants.{Memory as WantOfMemory};
-ghost use Rattle.desk_csv.specs.Fields.{field, counted, digits_from, number_of, number_at, numbers_at, word_at, monday_at, stamp_at};
+ghost use Rattle.desk_csv.specs.Fields.{field, counted, digits_from, digits_number, number_at, numbers_at, word_at, monday_at, stamp_at};
 
 use crate::errors::CsvError;
 use csv::ByteRecord;
@@ -53,10 +53,10 @@ fn digits(text: &[u8]) -> Option<u64>
 }
 
 /// The number that 1 to 10 ASCII digits make.
-#[tactic(auto, unfolding(crate::specs::Fields::number_of))]
+#[tactic(auto, unfolding(crate::specs::Fields::digits_number))]
 #[inline]
 fn read_number(text: &[u8]) -> Option<u64>
-    ensures { result ≡ number_of text.now }
+    ensures { result ≡ digits_number text.now }
 {
     if text.is_empty() || text.len() > 10 {
         return None;

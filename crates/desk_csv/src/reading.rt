@@ -1,7 +1,7 @@
 // A text read record by record, each at once as a row.
 ghost use Rattle.std.specs.Prelude.{◌≡◌, ℕ, ◌≤◌, ◌<◌, ◌^◌, length, Some, true, IfOk, IfErr, OnOk};
 ghost use Rattle.csv.specs.Records.{fields_of};
-ghost use Rattle.csv.specs.Reading.{ReadRecord, Ready, reader_trim, took_first};
+ghost use Rattle.csv.specs.Reading.{ReadRecord, Ready, is_flexible, reader_trim, took_first};
 ghost use Rattle.csv.specs.declared.reader.Trim.TheVariants as trim;
 ghost use Rattle.minute_line.specs.Answers.{Gives};
 ghost use Rattle.desk_csv.specs.declared.errors.CsvError.TheVariants.{Memory as WantOfMemory};
@@ -10,7 +10,7 @@ ghost use Rattle.desk_csv.specs.Reading.{records_of, first_monday, monday_for, r
 use crate::errors::{CsvError, Form};
 use crate::fields::{count, field, monday};
 use crate::rows::read_row;
-use csv::{ByteRecord, Reader, ReaderBuilder};
+use csv::{ByteRecord, ErrorKind, Reader, ReaderBuilder};
 use minute_line::{Bytes, Many, Monday};
 use std::alloc::Global;
 use std::str;
@@ -32,16 +32,26 @@ fn counted_from(first: Option<Monday>, fields: &ByteRecord) -> Result<Monday, Cs
     monday(1, 2, fields)
 }
 
-/// Whether a further record was read. A reader over bytes fails for want of memory alone.
+/// Whether a further record was read, of whatever length and bytes. So it fails for want of memory alone, or where the
+/// reader of the bytes itself fails, which is a slice in memory: `csv` does not say that such a one never does.
 fn next_record(reader: &mut Reader<&[u8]>, fields: &mut ByteRecord) -> Result<bool, CsvError>
+    requires trim { reader_trim reader.old ≡ trim.None }
+    requires flexible { is_flexible reader.old ≡ true }
+    requires ready { Ready reader.old }
     ensures want { IfErr result (λ e. e ≡ WantOfMemory) }
-    ensures reads { IfOk result (λ found. (reader_trim reader.old ≡ trim.None) → Ready reader.old
-        → ReadRecord (λ s. Some s.now) reader.old reader.new found (fields_of fields.new)) }
-    ensures ready { (reader_trim reader.old ≡ trim.None) → OnOk result (took_first reader.new ≡ true) }
+    ensures reads { IfOk result (λ found. ReadRecord (λ s. Some s.now) reader.old reader.new found (fields_of fields.new)) }
+    ensures ready { OnOk result (took_first reader.new ≡ true) }
+    ensures flexible { OnOk result (is_flexible reader.new ≡ true) }
 {
     match reader.read_byte_record(fields) {
         Ok(found) => Ok(found),
-        Err(_) => Err(CsvError::Memory),
+        Err(error) => match error.into_kind() {
+            ErrorKind::OutOfMemory | ErrorKind::Io(_) => Err(CsvError::Memory),
+            ErrorKind::UnequalLengths { .. }
+            | ErrorKind::Utf8 { .. }
+            | ErrorKind::Serialize(_)
+            | ErrorKind::Deserialize { .. } => unreachable!(),
+        },
     }
 }
 

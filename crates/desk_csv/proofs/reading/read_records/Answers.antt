@@ -17,6 +17,7 @@ loop-rows-init c =
       begun = (refl, c.new-rows.ensures);
       reads = record {
         config = rw (f, e) at fr.config ∙ c.new.ensures.config;
+        flexible = rw f at fr.flexible;
         trim = rw (f, e) at fr.trim ∙ c.new.ensures.trim;
         ready = inr (inr (rw (f, e) at fr.has_headers, fr.headers));
         source = fr.source;
@@ -30,7 +31,7 @@ counted_from-requires c =
     let new = c.next_record.new in
     let at = c.in_ok-next_record in
     let fields = fields_of new.fields in
-    let found = found_next c.args.form c.args.text.now l.reader new.reader l.first l.rows fields at.field-0 l.invariant at.ensures.reads at.ensures.ready c.if-branch.true in
+    let found = found_next c.args.form c.args.text.now l.reader new.reader l.first l.rows fields at.field-0 l.invariant at.ensures.reads at.ensures.ready at.ensures.flexible c.if-branch.true in
     let narrow = stands_narrow c.args.form c.args.text.now l.reader new.reader l.first l.rows fields l.invariant found in
     omega (arith, narrow, c.requires)
 
@@ -40,7 +41,7 @@ returns-in_err-monday-clause-rows c =
     let new = c.next_record.new in
     let at = c.in_ok-next_record in
     let fields = fields_of new.fields in
-    let found = found_next c.args.form c.args.text.now l.reader new.reader l.first l.rows fields at.field-0 l.invariant at.ensures.reads at.ensures.ready c.if-branch.true in
+    let found = found_next c.args.form c.args.text.now l.reader new.reader l.first l.rows fields at.field-0 l.invariant at.ensures.reads at.ensures.ready at.ensures.flexible c.if-branch.true in
     let p = err_from_is_err_and c.from_residual-in_err-monday.result c.from_residual-in_err-monday.ensures.1 in
     rw (p.1, p.2) (λ told_apart. stands_no_monday c.args.form c.args.text.now l.reader new.reader l.first l.rows fields c.in_err-monday.field-0.0 l.invariant found
     (c.in_err-monday.ensures told_apart))
@@ -65,7 +66,7 @@ read_row-requires c =
     let new = c.next_record.new in
     let at = c.in_ok-next_record in
     let fields = fields_of new.fields in
-    let found = found_next c.args.form c.args.text.now l.reader new.reader l.first l.rows fields at.field-0 l.invariant at.ensures.reads at.ensures.ready c.if-branch.true in
+    let found = found_next c.args.form c.args.text.now l.reader new.reader l.first l.rows fields at.field-0 l.invariant at.ensures.reads at.ensures.ready at.ensures.flexible c.if-branch.true in
     let narrow = stands_narrow c.args.form c.args.text.now l.reader new.reader l.first l.rows fields l.invariant found in
     omega (arith, narrow, c.requires)
 
@@ -75,7 +76,7 @@ returns-in_err-row-clause-rows c =
     let new = c.next_record.new in
     let at = c.in_ok-next_record in
     let fields = fields_of new.fields in
-    let found = found_next c.args.form c.args.text.now l.reader new.reader l.first l.rows fields at.field-0 l.invariant at.ensures.reads at.ensures.ready c.if-branch.true in
+    let found = found_next c.args.form c.args.text.now l.reader new.reader l.first l.rows fields at.field-0 l.invariant at.ensures.reads at.ensures.ready at.ensures.flexible c.if-branch.true in
     let p = err_from_is_err_and c.from_residual-in_err-row.result c.from_residual-in_err-row.ensures.1 in
     rw (p.1, p.2) (λ told_apart. stands_fault c.args.form c.args.text.now l.reader new.reader l.first l.rows fields c.in_ok-monday.monday c.in_err-row.field-0.0 l.invariant found
     c.in_ok-monday.ensures (rw c.len.ensures at (c.in_err-row.ensures told_apart)))
@@ -86,7 +87,7 @@ loop-rows-smaller c =
     let new = c.next_record.new in
     let at = c.in_ok-next_record in
     let fields = fields_of new.fields in
-    let found = found_next c.args.form c.args.text.now l.reader new.reader l.first l.rows fields at.field-0 l.invariant at.ensures.reads at.ensures.ready c.if-branch.true in
+    let found = found_next c.args.form c.args.text.now l.reader new.reader l.first l.rows fields at.field-0 l.invariant at.ensures.reads at.ensures.ready at.ensures.flexible c.if-branch.true in
     stands_less c.args.form c.args.text.now l.reader new.reader l.first l.rows fields l.invariant found
 
 pub loop-rows-preserved : goal.loop-rows-preserved
@@ -95,7 +96,7 @@ loop-rows-preserved c =
     let new = c.next_record.new in
     let at = c.in_ok-next_record in
     let fields = fields_of new.fields in
-    let found = found_next c.args.form c.args.text.now l.reader new.reader l.first l.rows fields at.field-0 l.invariant at.ensures.reads at.ensures.ready c.if-branch.true in
+    let found = found_next c.args.form c.args.text.now l.reader new.reader l.first l.rows fields at.field-0 l.invariant at.ensures.reads at.ensures.ready at.ensures.flexible c.if-branch.true in
     rw c.in_ok-push.ensures.ok (stands_more c.args.form c.args.text.now l.reader new.reader l.first l.rows fields c.in_ok-monday.monday c.in_ok-row.row l.invariant found
     c.in_ok-monday.ensures (rw c.len.ensures at c.in_ok-row.ensures))
 
