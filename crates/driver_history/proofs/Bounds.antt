@@ -13,12 +13,12 @@ use Rattle.hours_rules.specs.declared.clocks.Clock.{Clock}
 use Rattle.hours_rules.specs.declared.rules.Broken.{Broken}
 use Rattle.hours_rules.specs.declared.rules.Rule.TheVariants.{H5, H6}
 use Rattle.hours_rules.specs.Counts.{open_run, since_weekly, last_weekly}
-use Rattle.hours_rules.specs.Rules.{Past, fault, whole}
+use Rattle.hours_rules.specs.Rules.{Past, fault, whole, debt_of}
 use Rattle.hours_rules.specs.Standing.{Stands}
 use Rattle.hours_rules.proofs.Simulate.{every-minute}
 use Rattle.hours_rules.proofs.Stints.{fault_stays-stints, block-duty}
 use Rattle.hours_rules.proofs.Faults.{block-stands}
-use Rattle.driver_history.specs.Carrying.{Left, carry, add_off, add_duty, end_off, all_stints}
+use Rattle.driver_history.specs.Carrying.{SinceWeeklyRestFields, carry, add_off, add_duty, end_off, all_stints}
 use Rattle.driver_history.specs.Keeping.{IsKept, held}
 use Rattle.driver_history.proofs.Carry.{whole_of, weekly_ends, all_total, carry_small, prev-end_off, prev-add_duty}
 use Rattle.driver_history.proofs.Shapes.{past-carry}
@@ -51,11 +51,11 @@ weekly_length past zero m w d l h o = absurd (omega arith)
 weekly_length past (suc n) m w d l h o =
     let first : Minute = record { mark = m; kind = Weekly } in
     let r = every-minute past (replicate n first) first w (rw (first_of_block n first w) h) H5 in
-    long_enough (open_run (whole past w)) (last_weekly past.prev_weekly (whole past w)) (is_duty m) d o r
+    long_enough (open_run (whole past w)) (last_weekly past.prev_weekly (whole past w)) (debt_of past w).owed (is_duty m) d o r
   where
-    long_enough : (run before : ℕ) (duty : Bool) → duty ≡ true → 1 ≤ run →
-        (not (duty && leb 1 run) || leb (cond (ltb before 2700) 2700 1440) run) ≡ true → 1440 ≤ run
-    long_enough run before duty d o r = grind (arith, nat_tests)
+    long_enough : (run before owed : ℕ) (duty : Bool) → duty ≡ true → 1 ≤ run →
+        (not (duty && leb 1 run) || leb (cond (ltb before 2700 || ltb 0 owed) 2700 1440) run) ≡ true → 1440 ≤ run
+    long_enough run before owed duty d o r = grind (arith, nat_tests)
 
 pub weekly_kind : (kind : Kind) → is_weekly kind ≡ true → kind ≡ Weekly
 weekly_kind Plain h = cc
@@ -71,7 +71,7 @@ some_off : (n : ℕ) → leb 1 n ≡ true → 1 ≤ n
 some_off n h = grind (arith, nat_tests)
 
 -- a weekly rest that ends in a lawful line has its length
-rest-duty : (past : Past) (c : Left) (k : Clock) (d : Kind) (w : Minutes) (m : Mark) (n : ℕ) → is_off m ≡ false → 1 ≤ n →
+rest-duty : (past : Past) (c : SinceWeeklyRestFields) (k : Clock) (d : Kind) (w : Minutes) (m : Mark) (n : ℕ) → is_off m ≡ false → 1 ≤ n →
     Stands k past w → Tracks c k d → 1440 ≤ c.prev_weekly → fault past (stretch n m d w) ≡ None →
     1440 ≤ (add_duty (end_off c) m n).prev_weekly
 rest-duty past c k d w m n f l s t p h = rw (prev-add_duty (end_off c) m n, prev-end_off c) (by_end (weekly_ends c) refl)
@@ -85,14 +85,14 @@ rest-duty past c k d w m n f l s t p h = rw (prev-add_duty (end_off c) m n, prev
         let some : 1 ≤ open_run (whole past w) = rw run (some_off c.open_off both.0) in
         rw run at (weekly_length past n m w (duty_off m f) l (rw kind at h) some)
 
-short-duty : (c : Left) (m : Mark) (n : ℕ) → c.prev_weekly ≤ 1000000 → c.open_off ≤ 1000000 → (add_duty (end_off c) m n).prev_weekly ≤ 1000000
+short-duty : (c : SinceWeeklyRestFields) (m : Mark) (n : ℕ) → c.prev_weekly ≤ 1000000 → c.open_off ≤ 1000000 → (add_duty (end_off c) m n).prev_weekly ≤ 1000000
 short-duty c m n p o = rw (prev-add_duty (end_off c) m n, prev-end_off c) (by_end (weekly_ends c))
   where
     by_end : (b : Bool) → cond b c.open_off c.prev_weekly ≤ 1000000
     by_end true = o
     by_end false = p
 
-total-duty : (past : Past) (c : Left) (k : Clock) (d : Kind) (w : Minutes) (m : Mark) (n : ℕ) → is_off m ≡ false → 1 ≤ n →
+total-duty : (past : Past) (c : SinceWeeklyRestFields) (k : Clock) (d : Kind) (w : Minutes) (m : Mark) (n : ℕ) → is_off m ≡ false → 1 ≤ n →
     Stands k past w → Tracks c k d → fault past (stretch n m d w) ≡ None → total_of (all_stints (add_duty (end_off c) m n)) ≤ 20160
 total-duty past c k d w m n f l s t h =
     let t' = tracks-duty c k d m n t in
@@ -102,7 +102,7 @@ total-duty past c k d w m n f l s t h =
     let all : whole_of (add_duty (end_off c) m n) ≤ 8640 = omega (arith, ints) in
     omega (arith, all_total (add_duty (end_off c) m n))
 
-kept-duty : (past : Past) (c : Left) (k : Clock) (d : Kind) (w : Minutes) (s : Stint) → is_off s.mark ≡ false → 1 ≤ s.minutes →
+kept-duty : (past : Past) (c : SinceWeeklyRestFields) (k : Clock) (d : Kind) (w : Minutes) (s : Stint) → is_off s.mark ≡ false → 1 ≤ s.minutes →
     Stands k past w → Tracks c k d → IsKept c → c.open_off ≤ 1000000 → fault past (stretch s.minutes s.mark d w) ≡ None →
     IsKept (carry c s)
 kept-duty past c k d w s f l st t kept o h =
@@ -113,10 +113,10 @@ kept-duty past c k d w s f l st t kept o h =
       total = rw next (total-duty past c k d w s.mark s.minutes f l st t h);
     }
 
-pub kept-off : (c : Left) (n : ℕ) (kind : Kind) → IsKept c → IsKept (add_off c n kind)
+pub kept-off : (c : SinceWeeklyRestFields) (n : ℕ) (kind : Kind) → IsKept c → IsKept (add_off c n kind)
 kept-off c n kind k = record { rest = k.rest; short = k.short; shape = k.shape; total = k.total }
 
-pub kept-carry : (past : Past) (c : Left) (k : Clock) (d : Kind) (r : Reached) (s : Stint) → Lasts s → r.declared ≡ d →
+pub kept-carry : (past : Past) (c : SinceWeeklyRestFields) (k : Clock) (d : Kind) (r : Reached) (s : Stint) → Lasts s → r.declared ≡ d →
     Stands k past r.minutes → Tracks c k d → IsKept c → c.open_off ≤ 1000000 → fault past (add_stint r s).minutes ≡ None →
     IsKept (carry c s)
 kept-carry past c k d r s l e st t kept o h = by_mark (is_off s.mark) refl
@@ -126,7 +126,7 @@ kept-carry past c k d r s l e st t kept o h = by_mark (is_off s.mark) refl
     by_mark false f =
         kept-duty past c k d r.minutes s f (l f) st t kept o (rw (block-duty s.mark s.minutes s.kind r (duty_off s.mark f), e) at h)
 
-pub kept-fold : (past : Past) (ss : List Stint) (c : Left) (k : Clock) (d : Kind) (r : Reached) → each_lasts ss ≡ true → r.declared ≡ d →
+pub kept-fold : (past : Past) (ss : List Stint) (c : SinceWeeklyRestFields) (k : Clock) (d : Kind) (r : Reached) → each_lasts ss ≡ true → r.declared ≡ d →
     Stands k past r.minutes → Tracks c k d → IsKept c → held c + total_of ss ≤ 1000000 → fault past (fold add_stint r ss).minutes ≡ None →
     IsKept (fold carry c ss)
 kept-fold past [] c k d r l e st t kept o h = kept

@@ -10,7 +10,7 @@ use Rattle.minute_line.specs.declared.marks.Stint.{Stint}
 use Rattle.minute_line.specs.declared.lines.Line.{Line}
 use Rattle.minute_line.specs.Minutes.{Minutes, Reached, stretch, add_block, add_stint, nothing, reached_by}
 use Rattle.hours_rules.specs.Counts.{count}
-use Rattle.hours_rules.specs.Verdicts.{week_of}
+use Rattle.hours_rules.specs.Verdicts.{week_minutes}
 
 count-stretch : (test : Mark → Bool) (n : ℕ) (mark : Mark) (kind : Kind) (w : Minutes) →
     count test (stretch n mark kind w) ≡ count test w + cond (test mark) n 0
@@ -33,7 +33,7 @@ count-fold test (s ∷ ss) r =
     omega (arith, count-fold test ss (add_stint r s), count-block test s.mark s.minutes s.kind r, sum_by-cons (λ (x : Stint). cond (test x.mark) x.minutes 0) s ss)
 
 pub count-week : (test : Mark → Bool) (line : Line) → test Off ≡ false →
-    count test (week_of line) ≡ sum_by (λ (s : Stint). cond (test s.mark) s.minutes 0) line.stints
+    count test (week_minutes line) ≡ sum_by (λ (s : Stint). cond (test s.mark) s.minutes 0) line.stints
 count-week test line f =
     let tail = count-stretch test (10080 - length (reached_by line.stints).minutes) Off Plain (reached_by line.stints).minutes in
     let none = rw f at tail in

@@ -7,21 +7,21 @@ use Rattle.minute_line.specs.declared.marks.Kind.{Kind}
 use Rattle.minute_line.specs.declared.marks.Kind.TheVariants.{Plain}
 use Rattle.minute_line.specs.declared.marks.Stint.{Stint}
 use Rattle.minute_line.specs.Marks.{is_off, is_weekly}
-use Rattle.driver_history.specs.Carrying.{Left, duty, rest, same_mark, no_line, all_stints, add_off, end_off, add_duty, carry}
+use Rattle.driver_history.specs.Carrying.{SinceWeeklyRestFields, duty, rest, same_mark, no_line, all_stints, add_off, end_off, add_duty, carry}
 use Rattle.driver_history.proofs.Shapes.{same_is, no_minutes, is_some}
 use Rattle.driver_history.proofs.Watching.{Lasts, each_lasts, first_lasts, rest_lasts}
 
 -- the line since the last weekly rest, with this block at its end
-abbrev pub with_block : ℕ → List Stint → Mark → ℕ → Left
+abbrev pub with_block : ℕ → List Stint → Mark → ℕ → SinceWeeklyRestFields
 with_block weekly stints mark minutes = record (no_line weekly) { stints = stints; mark = mark; minutes = minutes }
 
 -- the stints with any block at their end, carried on once more, are these stints and this block
-pub record Joined (c : Left) : Type 0 where
+pub record Joined (c : SinceWeeklyRestFields) : Type 0 where
   pub again : (k : ℕ) → 1 ≤ k → fold carry (no_line c.prev_weekly) (c.stints ++ duty c.mark k ∷ []) ≡ with_block c.prev_weekly c.stints c.mark k
   pub empty : c.minutes ≡ 0 → c.stints ≡ []
 
 -- the first block after a rest
-fresh-duty : (c : Left) (m : Mark) (n : ℕ) → c.minutes ≡ 0 → add_duty c m n ≡ record c { mark = m; minutes = n; declared = Plain }
+fresh-duty : (c : SinceWeeklyRestFields) (m : Mark) (n : ℕ) → c.minutes ≡ 0 → add_duty c m n ≡ record c { mark = m; minutes = n; declared = Plain }
 fresh-duty c m n z =
     let sum : c.minutes + n ≡ n = omega arith in
     let none : nat_eq c.minutes 0 ≡ true = rw z refl in
@@ -30,10 +30,10 @@ fresh-duty c m n z =
       | inr f ↦ rw (f, none) refl
     ]
 
-carry-duty : (c : Left) (m : Mark) (n : ℕ) → is_off m ≡ false → carry c (duty m n) ≡ add_duty (end_off c) m n
+carry-duty : (c : SinceWeeklyRestFields) (m : Mark) (n : ℕ) → is_off m ≡ false → carry c (duty m n) ≡ add_duty (end_off c) m n
 carry-duty c m n f = rw f refl
 
-fold-last : (c : Left) (xs : List Stint) (s : Stint) → fold carry c (xs ++ s ∷ []) ≡ carry (fold carry c xs) s
+fold-last : (c : SinceWeeklyRestFields) (xs : List Stint) (s : Stint) → fold carry c (xs ++ s ∷ []) ≡ carry (fold carry c xs) s
 fold-last c xs s = fold-append carry c xs (s ∷ [])
 
 -- a block after a weekly rest
@@ -44,10 +44,10 @@ joined-first weekly m n f l = record {
 }
 
 -- what the stints give once more
-pub rerun_of : Left → Left
+pub rerun_of : SinceWeeklyRestFields → SinceWeeklyRestFields
 rerun_of c = cond (nat_eq c.minutes 0) (no_line c.prev_weekly) (with_block c.prev_weekly c.stints c.mark c.minutes)
 
-pub rerun : (c : Left) → Joined c → fold carry (no_line c.prev_weekly) (all_stints c) ≡ rerun_of c
+pub rerun : (c : SinceWeeklyRestFields) → Joined c → fold carry (no_line c.prev_weekly) (all_stints c) ≡ rerun_of c
 unfolding rerun_of
 rerun c j =
     elim (cases_Bool (nat_eq c.minutes 0)) [
@@ -55,7 +55,7 @@ rerun c j =
       | inr f ↦ rw f (j.again c.minutes (is_some c.minutes f))
     ]
 
-pub all-rerun : (c : Left) → Joined c → all_stints (rerun_of c) ≡ all_stints c
+pub all-rerun : (c : SinceWeeklyRestFields) → Joined c → all_stints (rerun_of c) ≡ all_stints c
 unfolding rerun_of
 all-rerun c j =
     elim (cases_Bool (nat_eq c.minutes 0)) [
@@ -63,7 +63,7 @@ all-rerun c j =
       | inr f ↦ rw (f, f) refl
     ]
 
-pub prev-rerun : (c : Left) → (rerun_of c).prev_weekly ≡ c.prev_weekly
+pub prev-rerun : (c : SinceWeeklyRestFields) → (rerun_of c).prev_weekly ≡ c.prev_weekly
 unfolding rerun_of
 prev-rerun c =
     elim (cases_Bool (nat_eq c.minutes 0)) [
@@ -71,7 +71,7 @@ prev-rerun c =
       | inr f ↦ rw f refl
     ]
 
-pub open-rerun : (c : Left) → (rerun_of c).open_off ≡ 0
+pub open-rerun : (c : SinceWeeklyRestFields) → (rerun_of c).open_off ≡ 0
 unfolding rerun_of
 open-rerun c =
     elim (cases_Bool (nat_eq c.minutes 0)) [
@@ -80,7 +80,7 @@ open-rerun c =
     ]
 
 -- a block of another mark
-joined-next : (c : Left) (m : Mark) (n : ℕ) → Joined c → is_off m ≡ false → 1 ≤ n → nat_eq c.minutes 0 ≡ false → same_mark c.mark m ≡ false →
+joined-next : (c : SinceWeeklyRestFields) (m : Mark) (n : ℕ) → Joined c → is_off m ≡ false → 1 ≤ n → nat_eq c.minutes 0 ≡ false → same_mark c.mark m ≡ false →
     Joined (with_block c.prev_weekly (all_stints c) m n)
 joined-next c m n j f l some other =
     let block : fold carry (no_line c.prev_weekly) (all_stints c) ≡ with_block c.prev_weekly c.stints c.mark c.minutes =
@@ -93,12 +93,12 @@ joined-next c m n j f l some other =
     }
 
 -- a block after an off run that is no weekly rest
-end-plain : (c : Left) (o : ℕ) (kind : Kind) → c.open_off ≡ 0 → nat_eq o 0 ≡ false → is_weekly kind ≡ false →
+end-plain : (c : SinceWeeklyRestFields) (o : ℕ) (kind : Kind) → c.open_off ≡ 0 → nat_eq o 0 ≡ false → is_weekly kind ≡ false →
     end_off (add_off c o kind) ≡ record (no_line c.prev_weekly) { stints = all_stints c ++ rest o kind ∷ [] }
 end-plain c o kind z some w =
     let sum : c.open_off + o ≡ o = omega arith in rw (sum, some, w) refl
 
-joined-rest : (c : Left) (m : Mark) (n o : ℕ) (kind : Kind) → Joined c → is_off m ≡ false → 1 ≤ n → nat_eq o 0 ≡ false → is_weekly kind ≡ false →
+joined-rest : (c : SinceWeeklyRestFields) (m : Mark) (n o : ℕ) (kind : Kind) → Joined c → is_off m ≡ false → 1 ≤ n → nat_eq o 0 ≡ false → is_weekly kind ≡ false →
     Joined (with_block c.prev_weekly (all_stints c ++ rest o kind ∷ []) m n)
 joined-rest c m n o kind j f l some w = record {
   again = λ (k : ℕ) (h : 1 ≤ k). fold-last (no_line c.prev_weekly) (all_stints c ++ rest o kind ∷ []) (duty m k)
@@ -110,13 +110,13 @@ joined-rest c m n o kind j f l some w = record {
 }
 
 -- what matters of it
-same_joined : (c d : Left) → c.prev_weekly ≡ d.prev_weekly → c.stints ≡ d.stints → c.mark ≡ d.mark → c.minutes ≡ d.minutes → Joined c → Joined d
+same_joined : (c d : SinceWeeklyRestFields) → c.prev_weekly ≡ d.prev_weekly → c.stints ≡ d.stints → c.mark ≡ d.mark → c.minutes ≡ d.minutes → Joined c → Joined d
 same_joined c d p s m n j = record {
   again = λ (k : ℕ) (h : 1 ≤ k). rw (← p, ← s, ← m) (j.again k h);
   empty = λ (z : d.minutes ≡ 0). sym s ∙ j.empty (n ∙ z);
 }
 
-joined-add_duty : (c : Left) (m : Mark) (n : ℕ) → Joined c → is_off m ≡ false → 1 ≤ n → Joined (add_duty c m n)
+joined-add_duty : (c : SinceWeeklyRestFields) (m : Mark) (n : ℕ) → Joined c → is_off m ≡ false → 1 ≤ n → Joined (add_duty c m n)
 joined-add_duty c m n j f l =
     elim (cases_Bool (nat_eq c.minutes 0)) [
       | inl z ↦ let e = fresh-duty c m n (no_minutes c.minutes z) in
@@ -131,7 +131,7 @@ joined-add_duty c m n j f l =
     })
     by_mark some false e = rw e (same_joined (with_block c.prev_weekly (all_stints c) m n) _ refl refl refl refl (joined-next c m n j f l some e))
 
-joined-duty : (c : Left) (m : Mark) (n : ℕ) → Joined c → is_off m ≡ false → 1 ≤ n → Joined (add_duty (end_off c) m n)
+joined-duty : (c : SinceWeeklyRestFields) (m : Mark) (n : ℕ) → Joined c → is_off m ≡ false → 1 ≤ n → Joined (add_duty (end_off c) m n)
 joined-duty c m n j f l =
     elim (cases_Bool (nat_eq c.open_off 0)) [
       | inl z ↦ rw z (joined-add_duty c m n j f l)
@@ -144,7 +144,7 @@ joined-duty c m n j f l =
         rw (some, e, fresh-duty (record (no_line c.prev_weekly) { stints = all_stints c ++ rest c.open_off c.declared ∷ [] }) m n refl)
         (joined-rest c m n c.open_off c.declared j f l some e)
 
-pub joined-carry : (c : Left) (s : Stint) → Joined c → Lasts s → Joined (carry c s)
+pub joined-carry : (c : SinceWeeklyRestFields) (s : Stint) → Joined c → Lasts s → Joined (carry c s)
 joined-carry c s j l =
     elim (cases_Bool (is_off s.mark)) [
       | inl t ↦ rw t (record { again = j.again; empty = j.empty })
@@ -157,7 +157,7 @@ joined-none weekly = record {
   empty = λ z. refl;
 }
 
-joined-from : (ss : List Stint) (c : Left) → Joined c → each_lasts ss ≡ true → Joined (fold carry c ss)
+joined-from : (ss : List Stint) (c : SinceWeeklyRestFields) → Joined c → each_lasts ss ≡ true → Joined (fold carry c ss)
 joined-from [] c j l = j
 joined-from (s ∷ ss) c j l = joined-from ss (carry c s) (joined-carry c s j (first_lasts s ss l)) (rest_lasts s ss l)
 

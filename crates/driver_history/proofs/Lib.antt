@@ -1,6 +1,7 @@
 pub mod Carry
 pub mod Shapes
 pub mod Watching
+pub mod OwedClocks
 pub mod Bounds
 pub mod Pasts
 pub mod Weeks
@@ -11,11 +12,18 @@ pub mod Rows
 pub mod RowShapes
 pub mod RowBounds
 pub mod Texts
+pub mod Alike
 pub mod LongRuns
 pub mod Nearby
 pub mod Shifting
 pub mod Closing
 pub mod Following
 pub mod Counting
+pub mod Beginnings
+pub mod KeptDebts
 pub mod Ending
+pub mod OwedBounds
+pub mod Later
+pub mod Stating
 pub mod Appending
+pub mod Lasting

@@ -13,22 +13,12 @@ use Rattle.hours_rules.specs.declared.rules.Rule.{Rule}
 use Rattle.hours_rules.specs.declared.rules.Rule.TheVariants.{H6}
 use Rattle.hours_rules.specs.Rules.{Past, holds, failing, fault, all_rules}
 use Rattle.hours_rules.specs.Standing.{Stands}
-use Rattle.hours_rules.specs.Order.{IsAsGood}
 use Rattle.hours_rules.specs.Machine.{run_ended, ticked, rested, room, left_until}
 use Rattle.hours_rules.proofs.Rooms.{holds-within, fails-past}
 use Rattle.hours_rules.proofs.Faults.{all-hold, fault-off}
 use Rattle.hours_rules.proofs.Steps.{stands-duty, stands-off}
-use Rattle.hours_rules.proofs.Better.{ended-as_good, ticked-as_good, rested-as_good, room-as_good}
-use Rattle.driver_history.proofs.LongRuns.{Held, run-inside, none_left, long-run, held-room, held-sym, held-rested, held-weekly}
-
--- each is as good as the other
-pub record Alike (a b : Clock) : Type 0 where
-  pub to : IsAsGood a b
-  pub from : IsAsGood b a
-
-alike-room : (a b : Clock) (mark : Mark) (kind : Kind) → Alike a b → (r : Rule) →
-    room a (run_ended a kind) mark kind r ≡ room b (run_ended b kind) mark kind r
-alike-room a b mark kind h r = omega (arith, room-as_good a b mark kind h.to r, room-as_good b a mark kind h.from r)
+use Rattle.driver_history.proofs.Alike.{Alike, alike-room, alike-duty, alike-ticked, alike-off}
+use Rattle.driver_history.proofs.LongRuns.{Held, few-other, run-inside, none_left, long-run, held-room, held-rested, held-weekly}
 
 -- equal rooms, equal verdicts
 holds-room : (a b : Clock) (pa pb : Past) (w : Minutes) (mark : Mark) (kind : Kind) (r : Rule) → is_duty mark ≡ true → Stands a pa w → Stands b pb w →
@@ -79,19 +69,13 @@ too_late b pb w mark kind d s l e n =
 
 near-duty : (a b : Clock) (pa pb : Past) (w : Minutes) (mark : Mark) (kind : Kind) → is_duty mark ≡ true → Stands a pa w → Stands b pb w → Alike a b ⊎ Held a b →
     failing pb (record { mark = mark; kind = kind }) w ≡ None → Alike (ticked (run_ended a kind) mark 1) (ticked (run_ended b kind) mark 1)
-near-duty a b pa pb w mark kind d sa sb (inl h) n = record {
-  to = ticked-as_good _ _ mark 1 (ended-as_good a b kind h.to);
-  from = ticked-as_good _ _ mark 1 (ended-as_good b a kind h.from);
-}
-near-duty a b pa pb w mark Weekly d sa sb (inr h) n = record {
-  to = ticked-as_good _ _ mark 1 (held-weekly a b h);
-  from = ticked-as_good _ _ mark 1 (held-weekly b a (held-sym a b h));
-}
-near-duty a b pa pb w mark Plain d sa sb (inr h) n = let y = long-run b Plain h.b_off in absurd (too_late b pb w mark Plain d sb h.b_off (rw y.one refl) n)
-near-duty a b pa pb w mark Daily d sa sb (inr h) n = let y = long-run b Daily h.b_off in absurd (too_late b pb w mark Daily d sb h.b_off (rw y.one refl) n)
+near-duty a b pa pb w mark kind d sa sb (inl h) n = alike-duty a b mark kind h
+near-duty a b pa pb w mark Weekly d sa sb (inr h) n = alike-ticked (run_ended a Weekly) (run_ended b Weekly) mark (held-weekly a b h)
+near-duty a b pa pb w mark Plain d sa sb (inr h) n = let y = long-run b Plain h.b_off (few-other a b h) in absurd (too_late b pb w mark Plain d sb h.b_off (rw y.one refl) n)
+near-duty a b pa pb w mark Daily d sa sb (inr h) n = let y = long-run b Daily h.b_off (few-other a b h) in absurd (too_late b pb w mark Daily d sb h.b_off (rw y.one refl) n)
 
 near-off : (a b : Clock) → Alike a b ⊎ Held a b → Alike (rested a 1) (rested b 1) ⊎ Held (rested a 1) (rested b 1)
-near-off a b (inl h) = inl (record { to = rested-as_good a b 1 h.to; from = rested-as_good b a 1 h.from })
+near-off a b (inl h) = inl (alike-off a b h)
 near-off a b (inr h) = inr (held-rested a b h)
 
 going-duty : (pa pb : Past) (w : Minutes) (mark : Mark) (kind : Kind) → is_duty mark ≡ true → fault pa w ≡ None → fault pb w ≡ None → Near pa pb w →

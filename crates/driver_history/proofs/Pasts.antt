@@ -7,7 +7,7 @@ use Rattle.minute_line.specs.declared.marks.Stint.{Stint}
 use Rattle.minute_line.specs.Marks.{is_off, is_weekly}
 use Rattle.minute_line.specs.Minutes.{total_of}
 use Rattle.minute_line.specs.Stints.{is_past, is_line, each_follows}
-use Rattle.driver_history.specs.Carrying.{Left, carry, add_off, add_duty, end_off, all_stints}
+use Rattle.driver_history.specs.Carrying.{SinceWeeklyRestFields, carry, add_off, add_duty, end_off, all_stints}
 use Rattle.driver_history.proofs.Carry.{whole_of, weekly_ends, whole-add_duty, whole-end_off, prev-end_off, prev-add_duty, open-add_duty, open-end_off}
 use Rattle.driver_history.proofs.Shapes.{past-carry}
 use Rattle.driver_history.proofs.Watching.{each_lasts, first_lasts, rest_lasts}
@@ -18,11 +18,11 @@ cuts_none weekly [] = true
 cuts_none weekly (s ∷ ss) = (is_off s.mark || not weekly) && cuts_none (is_off s.mark && is_weekly s.kind) ss
 
 -- the last weekly rest is the one before, and nothing is lost
-pub record Uncut (c d : Left) (minutes : ℕ) : Type 0 where
+pub record Uncut (c d : SinceWeeklyRestFields) (minutes : ℕ) : Type 0 where
   pub prev : d.prev_weekly ≡ c.prev_weekly
   pub whole : whole_of d ≡ whole_of c + minutes
 
-uncut-carry : (c : Left) (s : Stint) (w : Bool) → (weekly_ends c ≡ true → w ≡ true) → (is_off s.mark || not w) ≡ true → Uncut c (carry c s) s.minutes
+uncut-carry : (c : SinceWeeklyRestFields) (s : Stint) (w : Bool) → (weekly_ends c ≡ true → w ≡ true) → (is_off s.mark || not w) ≡ true → Uncut c (carry c s) s.minutes
 uncut-carry c s w i h =
     elim (cases_Bool (is_off s.mark)) [
       | inl o ↦ let e : carry c s ≡ add_off c s.minutes s.kind = rw o refl in record { prev = rw e refl; whole = rw e (omega arith) }
@@ -37,7 +37,7 @@ uncut-carry c s w i h =
     none o false e = e
     none o true e = let t = i e in grind arith
 
-pub ends-carry : (c : Left) (s : Stint) → weekly_ends (carry c s) ≡ true → (is_off s.mark && is_weekly s.kind) ≡ true
+pub ends-carry : (c : SinceWeeklyRestFields) (s : Stint) → weekly_ends (carry c s) ≡ true → (is_off s.mark && is_weekly s.kind) ≡ true
 ends-carry c s h =
     elim (cases_Bool (is_off s.mark)) [
       | inl o ↦ grind (arith, nat_tests)
@@ -47,7 +47,7 @@ ends-carry c s h =
           let bad : weekly_ends (add_duty (end_off c) s.mark s.minutes) ≡ true = rw e at h in cc
     ]
 
-pub uncut-fold : (ss : List Stint) (c : Left) (w : Bool) → (weekly_ends c ≡ true → w ≡ true) → cuts_none w ss ≡ true →
+pub uncut-fold : (ss : List Stint) (c : SinceWeeklyRestFields) (w : Bool) → (weekly_ends c ≡ true → w ≡ true) → cuts_none w ss ≡ true →
     Uncut c (fold carry c ss) (total_of ss)
 uncut-fold [] c w i h = record { prev = refl; whole = omega arith }
 uncut-fold (s ∷ ss) c w i h =
@@ -60,12 +60,12 @@ uncut-fold (s ∷ ss) c w i h =
       whole = let a = all.whole in let b = one.whole in omega (arith, sum_by-cons (λ (x : Stint). x.minutes) s ss);
     }
 
-pub past-fold : (ss : List Stint) (c : Left) → each_lasts ss ≡ true → is_past false (all_stints c) ≡ true → is_past false (all_stints (fold carry c ss)) ≡ true
+pub past-fold : (ss : List Stint) (c : SinceWeeklyRestFields) → each_lasts ss ≡ true → is_past false (all_stints c) ≡ true → is_past false (all_stints (fold carry c ss)) ≡ true
 past-fold [] c l h = h
 past-fold (s ∷ ss) c l h = past-fold ss (carry c s) (rest_lasts s ss l) (past-carry c s h (first_lasts s ss l))
 
 -- no run is open after an on-duty stint
-pub open-fold : (after : Bool) (ss : List Stint) (c : Left) → is_past after ss ≡ true → (after ≡ false → c.open_off ≡ 0) → (fold carry c ss).open_off ≡ 0
+pub open-fold : (after : Bool) (ss : List Stint) (c : SinceWeeklyRestFields) → is_past after ss ≡ true → (after ≡ false → c.open_off ≡ 0) → (fold carry c ss).open_off ≡ 0
 open-fold true [] c h i = cc
 open-fold false [] c h i = i refl
 open-fold after (s ∷ ss) c h i = open-fold (is_off s.mark) ss (carry c s) (grind arith) (λ (o : is_off s.mark ≡ false). rw o (open-add_duty (end_off c) s.mark s.minutes ∙ open-end_off c))

@@ -4,9 +4,9 @@ use Rattle.std.proofs.lemmas.Bool.{cases_Bool}
 use Rattle.std.proofs.lemmas.Bool.Decides.{nat_tests}
 use Rattle.std.proofs.lemmas.List.Sums.{sum_by-cons}
 use Rattle.minute_line.specs.Marks.{is_off}
-use Rattle.week_book.specs.Pasts.{Spell, Rested, is_off_word}
+use Rattle.week_book.specs.Pasts.{Activity, Rested, is_off_word}
 use Rattle.driver_history.specs.declared.errors.HistoryError.{HistoryError}
-use Rattle.driver_history.specs.Carrying.{Left, no_line, carry, end_off}
+use Rattle.driver_history.specs.Carrying.{SinceWeeklyRestFields, no_line, carry, end_off}
 use Rattle.driver_history.specs.Keeping.{IsKept}
 use Rattle.driver_history.specs.Finding.{each_within, ArePast, IsRest}
 use Rattle.driver_history.specs.Reading.{stint_of, late_weekly, second_off, minutes_of, off_in, trailing_off, minutes_before, sum_fault, off_fault, weekly_fault, past_fault}
@@ -14,26 +14,26 @@ use Rattle.driver_history.proofs.Carry.{all_total, open-add_duty, open-end_off}
 use Rattle.driver_history.proofs.Pasts.{uncut-fold, past-fold}
 use Rattle.driver_history.proofs.RowShapes.{stint-says, total-stints, lasts-read, cuts-late}
 
-pub most_minutes : (ss : List Spell) → each_within 2000000 ss ≡ true → minutes_of ss ≤ 2000000 * length ss
+pub most_minutes : (ss : List Activity) → each_within 2000000 ss ≡ true → minutes_of ss ≤ 2000000 * length ss
 most_minutes [] h = omega arith
 most_minutes (s ∷ ss) h =
     let here : s.minutes ≤ 2000000 = grind (arith, nat_tests) in
     let more : minutes_of ss ≤ 2000000 * length ss = most_minutes ss (grind arith) in
-    omega (arith, sum_by-cons (λ (x : Spell). x.minutes) s ss)
+    omega (arith, sum_by-cons (λ (x : Activity). x.minutes) s ss)
 
-off_most : (s : Spell) → off_in s ≤ s.minutes
+off_most : (s : Activity) → off_in s ≤ s.minutes
 off_most s = grind arith
 
-pub trailing_most : (ss : List Spell) → trailing_off ss ≤ minutes_of ss
+pub trailing_most : (ss : List Activity) → trailing_off ss ≤ minutes_of ss
 trailing_most [] = omega arith
 trailing_most (s ∷ ss) =
-    let sum = sum_by-cons (λ (x : Spell). x.minutes) s ss in
+    let sum = sum_by-cons (λ (x : Activity). x.minutes) s ss in
     elim (cases_Bool (nat_eq (length ss) 0)) [
       | inl t ↦ rw t (omega (arith, off_most s))
       | inr f ↦ rw f (omega (arith, trailing_most ss))
     ]
 
-trailing_small : (ss : List Spell) → each_within 2000000 ss ≡ true → trailing_off ss ≤ 2000000
+trailing_small : (ss : List Activity) → each_within 2000000 ss ≡ true → trailing_off ss ≤ 2000000
 trailing_small [] h = omega arith
 trailing_small (s ∷ ss) h =
     let here : s.minutes ≤ 2000000 = grind (arith, nat_tests) in
@@ -43,12 +43,12 @@ trailing_small (s ∷ ss) h =
       | inr f ↦ rw f more
     ]
 
-open-carry : (c : Left) (s : Spell) → is_off_word s.word ≡ false → (carry c (stint_of s)).open_off ≡ 0
+open-carry : (c : SinceWeeklyRestFields) (s : Activity) → is_off_word s.word ≡ false → (carry c (stint_of s)).open_off ≡ 0
 open-carry c s f =
     let e : is_off (stint_of s).mark ≡ false = (stint-says s.word s.minutes).off ∙ f in
     rw e (open-add_duty (end_off c) (stint_of s).mark (stint_of s).minutes ∙ open-end_off c)
 
-open-last : (after : Bool) (c : Left) (s : Spell) → second_off after (s ∷ []) ≡ None → (after ≡ false → c.open_off ≡ 0) →
+open-last : (after : Bool) (c : SinceWeeklyRestFields) (s : Activity) → second_off after (s ∷ []) ≡ None → (after ≡ false → c.open_off ≡ 0) →
     (carry c (stint_of s)).open_off ≡ off_in s
 open-last after c s h i = by_word (is_off_word s.word) refl
   where
@@ -65,7 +65,7 @@ open-last after c s h i = by_word (is_off_word s.word) refl
         before true g o = let bad : Some s.row ≡ None = rw (g, o) at h in cc
 
 -- the open run is the trailing off row
-open-read : (after : Bool) (ss : List Spell) (c : Left) → second_off after ss ≡ None → (after ≡ false → c.open_off ≡ 0) → 1 ≤ length ss →
+open-read : (after : Bool) (ss : List Activity) (c : SinceWeeklyRestFields) → second_off after ss ≡ None → (after ≡ false → c.open_off ≡ 0) → 1 ≤ length ss →
     (fold carry c (map stint_of ss)).open_off ≡ trailing_off ss
 open-read after [] c h i l = absurd (omega arith)
 open-read after (s ∷ []) c h i l = open-last after c s h i
@@ -77,12 +77,12 @@ open-read after (s ∷ t ∷ ss) c h i l =
     later false e = rw e at h
     later true e = let bad : Some s.row ≡ None = rw e at h in cc
 
-pub open-rows : (weekly : ℕ) (ss : List Spell) → second_off false ss ≡ None → (fold carry (no_line weekly) (map stint_of ss)).open_off ≡ trailing_off ss
+pub open-rows : (weekly : ℕ) (ss : List Activity) → second_off false ss ≡ None → (fold carry (no_line weekly) (map stint_of ss)).open_off ≡ trailing_off ss
 open-rows weekly [] h = refl
 open-rows weekly (s ∷ ss) h = open-read false (s ∷ ss) (no_line weekly) h (λ e. refl) (omega arith)
 
 -- past rows that make a history
-pub record Reads (rested : Rested) (ss : List Spell) : Type 0 where
+pub record Reads (rested : Rested) (ss : List Activity) : Type 0 where
   pub late : late_weekly ss ≡ None
   pub offs : second_off false ss ≡ None
   pub before : minutes_before ss ≤ 20160
@@ -95,25 +95,25 @@ no_offs : (o : Option ℕ) (later : Option HistoryError) → off_fault o later �
 no_offs None later h = (refl, h)
 no_offs (Some row) later h = cc
 
-no_long : (rested : Rested) (ss : List Spell) → sum_fault rested ss ≡ None → minutes_before ss ≤ 20160
+no_long : (rested : Rested) (ss : List Activity) → sum_fault rested ss ≡ None → minutes_before ss ≤ 20160
 no_long rested ss h = grind (arith, nat_tests)
 
-pub reads : (rested : Rested) (ss : List Spell) → past_fault rested ss ≡ None → Reads rested ss
+pub reads : (rested : Rested) (ss : List Activity) → past_fault rested ss ≡ None → Reads rested ss
 reads rested ss h =
     let a = no_late (late_weekly ss) _ h in
     let b = no_offs (second_off false ss) _ a.1 in
     record { late = a.0; offs = b.0; before = no_long rested ss b.1 }
 
-pub few_minutes : (rested : Rested) (ss : List Spell) → ArePast ss → past_fault rested ss ≡ None → minutes_of ss ≤ 2020160
+pub few_minutes : (rested : Rested) (ss : List Activity) → ArePast ss → past_fault rested ss ≡ None → minutes_of ss ≤ 2020160
 few_minutes rested ss p h =
     let r = reads rested ss h in let b = r.before in omega (arith, trailing_small ss p.within, trailing_most ss)
 
 -- what past rows leave is what a history may hold
-pub kept-rows : (rested : Rested) (ss : List Spell) → IsRest rested → ArePast ss → past_fault rested ss ≡ None →
+pub kept-rows : (rested : Rested) (ss : List Activity) → IsRest rested → ArePast ss → past_fault rested ss ≡ None →
     IsKept (fold carry (no_line rested.minutes) (map stint_of ss))
 kept-rows rested ss i p h =
     let r = reads rested ss h in
-    let c : Left = fold carry (no_line rested.minutes) (map stint_of ss) in
+    let c : SinceWeeklyRestFields = fold carry (no_line rested.minutes) (map stint_of ss) in
     let u = uncut-fold (map stint_of ss) (no_line rested.minutes) false (λ e. e) (cuts-late ss r.late) in
     let prev = u.prev in let whole = u.whole in let before = r.before in let off = open-rows rested.minutes ss r.offs in
     record {

@@ -8,7 +8,7 @@ use Rattle.minute_line.specs.Minutes.{total_of}
 use Rattle.minute_line.specs.Stints.{is_line, each_follows, has_own_kind}
 use Rattle.week_book.specs.declared.rows.Word.{Word}
 use Rattle.week_book.specs.declared.rows.Word.TheVariants.{Drive, Work, Ready, Off, Daily, Weekly}
-use Rattle.week_book.specs.Pasts.{Spell, is_off_word, zero_first}
+use Rattle.week_book.specs.Pasts.{Activity, is_off_word, zero_first}
 use Rattle.week_book.specs.Pasts.{each_lasts as each_has_minutes}
 use Rattle.driver_history.specs.Reading.{stint_by, stint_of, is_weekly_word, late_weekly, second_off, minutes_of}
 use Rattle.driver_history.proofs.Watching.{each_lasts}
@@ -29,24 +29,24 @@ stint-says Off n = record { minutes = refl; off = refl; weekly = refl; own_kind 
 stint-says Daily n = record { minutes = refl; off = refl; weekly = refl; own_kind = refl }
 stint-says Weekly n = record { minutes = refl; off = refl; weekly = refl; own_kind = refl }
 
-pub total-stints : (ss : List Spell) → total_of (map stint_of ss) ≡ minutes_of ss
+pub total-stints : (ss : List Activity) → total_of (map stint_of ss) ≡ minutes_of ss
 total-stints [] = refl
 total-stints (s ∷ ss) =
     omega (
       arith,
       sum_by-cons (λ (x : Stint). x.minutes) (stint_of s) (map stint_of ss),
-      sum_by-cons (λ (x : Spell). x.minutes) s ss,
+      sum_by-cons (λ (x : Activity). x.minutes) s ss,
       (stint-says s.word s.minutes).minutes,
       total-stints ss,
     )
 
-pub lasts-read : (ss : List Spell) → each_has_minutes ss ≡ true → each_lasts (map stint_of ss) ≡ true
+pub lasts-read : (ss : List Activity) → each_has_minutes ss ≡ true → each_lasts (map stint_of ss) ≡ true
 lasts-read [] h = refl
 lasts-read (s ∷ ss) h =
     rw ((stint-says s.word s.minutes).off, (stint-says s.word s.minutes).minutes, lasts-read ss (grind arith)) (grind (arith, nat_tests))
 
 -- where no weekly rest but the last row is there, none ends
-pub cuts-late : (ss : List Spell) → late_weekly ss ≡ None → cuts_none false (map stint_of ss) ≡ true
+pub cuts-late : (ss : List Activity) → late_weekly ss ≡ None → cuts_none false (map stint_of ss) ≡ true
 cuts-late [] h = refl
 cuts-late (s ∷ []) h = rw ((stint-says s.word s.minutes).off) (grind arith)
 cuts-late (s ∷ t ∷ ss) h = by_word (cuts-late (t ∷ ss)) (is_weekly_word s.word) refl
@@ -63,7 +63,7 @@ cuts-late (s ∷ t ∷ ss) h = by_word (cuts-late (t ∷ ss)) (is_weekly_word s.
         let bad : Some s.row ≡ None = rw (e, some) at h in cc
 
 -- the shape of a line of did rows
-follows-read : (after : Bool) (ss : List Spell) → each_has_minutes ss ≡ true → second_off after ss ≡ None → each_follows after (map stint_of ss) ≡ true
+follows-read : (after : Bool) (ss : List Activity) → each_has_minutes ss ≡ true → second_off after ss ≡ None → each_follows after (map stint_of ss) ≡ true
 follows-read after [] l h = refl
 follows-read after (s ∷ ss) l h = by_offs (follows-read (is_off_word s.word) ss (grind arith)) (after && is_off_word s.word) refl
   where
@@ -76,7 +76,7 @@ follows-read after (s ∷ ss) l h = by_offs (follows-read (is_off_word s.word) s
         let some : leb 1 s.minutes ≡ true = grind (arith, nat_tests) in
         let it = stint-says s.word s.minutes in rw (it.own_kind, it.off, it.minutes, some, e, rest) refl
 
-pub line-read : (ss : List Spell) → zero_first ss ≡ true → second_off false ss ≡ None → is_line (map stint_of ss) ≡ true
+pub line-read : (ss : List Activity) → zero_first ss ≡ true → second_off false ss ≡ None → is_line (map stint_of ss) ≡ true
 line-read [] z h = refl
 line-read (s ∷ ss) z h =
     let rest : each_follows (is_off_word s.word) (map stint_of ss) ≡ true = follows-read (is_off_word s.word) ss (grind arith) h in

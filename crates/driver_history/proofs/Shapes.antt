@@ -8,7 +8,7 @@ use Rattle.minute_line.specs.declared.marks.Kind.{Kind}
 use Rattle.minute_line.specs.declared.marks.Stint.{Stint}
 use Rattle.minute_line.specs.Marks.{is_off, is_weekly}
 use Rattle.minute_line.specs.Stints.{is_past, is_line, each_follows}
-use Rattle.driver_history.specs.Carrying.{Left, duty, rest, same_mark, no_line, all_stints, end_off, add_duty, carry}
+use Rattle.driver_history.specs.Carrying.{SinceWeeklyRestFields, duty, rest, same_mark, no_line, all_stints, end_off, add_duty, carry}
 
 pub is_past-append : (after : Bool) (xs ys : List Stint) → is_past after xs ≡ true → is_past false ys ≡ true → is_past after (xs ++ ys) ≡ true
 is_past-append true [] ys h g = cc
@@ -65,7 +65,7 @@ pub is_some : (n : ℕ) → nat_eq n 0 ≡ false → 1 ≤ n
 is_some n h = grind (arith, nat_tests)
 
 -- the first block after a rest
-pub all-after_rest : (d : Left) (m : Mark) (n : ℕ) → d.minutes ≡ 0 → 1 ≤ n → all_stints (add_duty d m n) ≡ d.stints ++ duty m n ∷ []
+pub all-after_rest : (d : SinceWeeklyRestFields) (m : Mark) (n : ℕ) → d.minutes ≡ 0 → 1 ≤ n → all_stints (add_duty d m n) ≡ d.stints ++ duty m n ∷ []
 all-after_rest d m n z h =
     let some : nat_eq n 0 ≡ false = some_minutes n h in
     let sum : d.minutes + n ≡ n = omega arith in
@@ -75,7 +75,7 @@ all-after_rest d m n z h =
       | inr f ↦ rw (f, some, none) refl
     ]
 
-past-add_duty : (c : Left) (m : Mark) (n : ℕ) → is_past false (all_stints c) ≡ true → is_off m ≡ false → 1 ≤ n →
+past-add_duty : (c : SinceWeeklyRestFields) (m : Mark) (n : ℕ) → is_past false (all_stints c) ≡ true → is_off m ≡ false → 1 ≤ n →
     is_past false (all_stints (add_duty c m n)) ≡ true
 past-add_duty c m n h d l =
     elim (cases_Bool (nat_eq c.minutes 0)) [
@@ -94,7 +94,7 @@ past-add_duty c m n h d l =
         let some : nat_eq n 0 ≡ false = some_minutes n l in
         rw (e, some) (is_past-append false (all_stints c) (duty m n ∷ []) h (past-duty m n d l))
 
-pub past-duty_after : (c : Left) (m : Mark) (n : ℕ) → is_past false (all_stints c) ≡ true → is_off m ≡ false → 1 ≤ n →
+pub past-duty_after : (c : SinceWeeklyRestFields) (m : Mark) (n : ℕ) → is_past false (all_stints c) ≡ true → is_off m ≡ false → 1 ≤ n →
     is_past false (all_stints (add_duty (end_off c) m n)) ≡ true
 past-duty_after c m n h d l =
     elim (cases_Bool (nat_eq c.open_off 0)) [
@@ -105,12 +105,12 @@ past-duty_after c m n h d l =
     by_kind : nat_eq c.open_off 0 ≡ false → (b : Bool) → is_weekly c.declared ≡ b → is_past false (all_stints (add_duty (end_off c) m n)) ≡ true
     by_kind f true e = rw (f, e, all-after_rest (no_line c.open_off) m n refl l) (past-duty m n d l)
     by_kind f false e =
-        let next : Left = record (no_line c.prev_weekly) { stints = all_stints c ++ rest c.open_off c.declared ∷ [] } in
+        let next : SinceWeeklyRestFields = record (no_line c.prev_weekly) { stints = all_stints c ++ rest c.open_off c.declared ∷ [] } in
         rw (f, e, all-after_rest next m n refl l, append_assoc)
         (is_past-append false (all_stints c) (rest c.open_off c.declared ∷ duty m n ∷ []) h
         (past-rest c.open_off c.declared m n e (is_some c.open_off f) d l))
 
-pub past-carry : (c : Left) (s : Stint) → is_past false (all_stints c) ≡ true → (is_off s.mark ≡ false → 1 ≤ s.minutes) →
+pub past-carry : (c : SinceWeeklyRestFields) (s : Stint) → is_past false (all_stints c) ≡ true → (is_off s.mark ≡ false → 1 ≤ s.minutes) →
     is_past false (all_stints (carry c s)) ≡ true
 past-carry c s h l =
     elim (cases_Bool (is_off s.mark)) [

@@ -7,11 +7,12 @@ use Rattle.minute_line.specs.declared.marks.Kind.{Kind}
 use Rattle.minute_line.specs.declared.marks.Stint.{Stint}
 use Rattle.minute_line.specs.Marks.{is_off, is_weekly}
 use Rattle.hours_rules.specs.declared.clocks.Clock.{Clock}
+use Rattle.hours_rules.specs.Debts.{Debt}
 use Rattle.hours_rules.specs.Machine.{run_ended, ticked, rested, rest_here}
 use Rattle.driver_history.proofs.Watching.{after_block, declared_after, watch}
 use Rattle.driver_history.proofs.Weeks.{first_clock}
 
--- what a clock counts, but for its spans, its open run and the week's own counts
+-- what a clock counts, but for its spans, its open run, the week's own counts and when a debt is due
 pub record Tally : Type 0 where
   pub period : ℕ
   pub half : Bool
@@ -22,6 +23,7 @@ pub record Tally : Type 0 where
   pub work_run : ℕ
   pub work_day : ℕ
   pub pause_day : ℕ
+  pub owed : ℕ
 
 abbrev pub tally : Clock → Tally
 tally k = record {
@@ -34,6 +36,7 @@ tally k = record {
   work_run = k.work_run;
   work_day = k.work_day;
   pause_day = k.pause_day;
+  owed = k.owed;
 }
 
 pub record SameTally (x y : Tally) : Type 0 where
@@ -46,11 +49,12 @@ pub record SameTally (x y : Tally) : Type 0 where
   pub work_run : x.work_run ≡ y.work_run
   pub work_day : x.work_day ≡ y.work_day
   pub pause_day : x.pause_day ≡ y.pause_day
+  pub owed : x.owed ≡ y.owed
 
 pub same-tally : (x : Tally) → SameTally x x
-same-tally x = record { period = refl; half = refl; drive_day = refl; split = refl; reduced = refl; prev_weekly = refl; work_run = refl; work_day = refl; pause_day = refl }
+same-tally x = record { period = refl; half = refl; drive_day = refl; split = refl; reduced = refl; prev_weekly = refl; work_run = refl; work_day = refl; pause_day = refl; owed = refl }
 
--- equal but for where the line began, and for the week's own counts
+-- equal but for where the line began, for the week's own counts and for when a debt is due
 pub record Shifted (x y : Clock) : Type 0 where
   pub off : x.off ≡ y.off
   pub day : (pos x.at -ℤ x.day_from) ≡ (pos y.at -ℤ y.day_from)
@@ -72,6 +76,7 @@ shifted-trans x y z s t = record {
     work_run = s.counts.work_run ∙ t.counts.work_run;
     work_day = s.counts.work_day ∙ t.counts.work_day;
     pause_day = s.counts.pause_day ∙ t.counts.pause_day;
+    owed = s.counts.owed ∙ t.counts.owed;
   };
 }
 
@@ -112,6 +117,7 @@ shifted-duty x y kind m n s = record {
     work_run = rw (s.off, s.counts.work_run) refl;
     work_day = rw (s.off, s.counts.work_day) refl;
     pause_day = rw (s.off, s.counts.pause_day) refl;
+    owed = rw (s.off, s.counts.owed) refl;
   };
 }
 
@@ -142,6 +148,11 @@ pub shifted-watch : (ss : List Stint) (x y : Clock) (d : Kind) → Shifted x y �
 shifted-watch [] x y d s = s
 shifted-watch (t ∷ ss) x y d s = shifted-watch ss _ _ (declared_after t) (shifted-block x y d t.mark t.minutes s)
 
--- what is known of the weeks before changes nothing else
-pub shifted-first : (weekly a b drive work : ℕ) → Shifted (first_clock weekly a b) (first_clock weekly drive work)
-shifted-first weekly a b drive work = record { off = refl; day = refl; since = refl; counts = same-tally (tally (first_clock weekly a b)) }
+-- what is known of the weeks before, and when a debt is due, changes nothing else
+pub shifted-first : (weekly a b drive work : ℕ) (x y : Debt) → x.owed ≡ y.owed → Shifted (first_clock weekly a b x) (first_clock weekly drive work y)
+shifted-first weekly a b drive work x y e = record {
+  off = refl;
+  day = refl;
+  since = refl;
+  counts = record { period = refl; half = refl; drive_day = refl; split = refl; reduced = refl; prev_weekly = refl; work_run = refl; work_day = refl; pause_day = refl; owed = e };
+}

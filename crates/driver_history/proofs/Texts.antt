@@ -9,9 +9,9 @@ use Rattle.week_book.specs.declared.rows.Row.{Row}
 use Rattle.week_book.specs.declared.rows.Row.TheVariants.{Past, Did}
 use Rattle.week_book.specs.declared.rows.Word.{Word}
 use Rattle.week_book.specs.Texts.{each_row}
-use Rattle.week_book.specs.Pasts.{Spell, rests_of, toils_of, did_spells, in_past_range, each_lasts, zero_first, HasPastRows}
-use Rattle.driver_history.specs.Finding.{did_in, rest_in, toil_in}
-use Rattle.driver_history.proofs.Rows.{did-rows, rest-rows, toil-rows}
+use Rattle.week_book.specs.Pasts.{Activity, rests_of, past_working_times_of, did_activities, in_past_range, each_lasts, zero_first, HasPastRows}
+use Rattle.driver_history.specs.Finding.{did_in, rest_in, past_working_time_in}
+use Rattle.driver_history.proofs.Rows.{did-rows, rest-rows, past_work-rows}
 
 rows-append : {B : Type 0} (f : Row → Option B) (all : List Row → List B) → ((rows : List Row) → filter_map f rows ≡ all rows) →
     (xs ys : List Row) → all (xs ++ ys) ≡ all xs ++ all ys
@@ -21,11 +21,11 @@ ranges-append : (xs ys : List Row) → each_row in_past_range xs ≡ true → ea
 ranges-append [] ys h g = g
 ranges-append (x ∷ xs) ys h g = grind (arith, ranges-append xs ys)
 
-lasts-append : (xs ys : List Spell) → each_lasts xs ≡ true → each_lasts ys ≡ true → each_lasts (xs ++ ys) ≡ true
+lasts-append : (xs ys : List Activity) → each_lasts xs ≡ true → each_lasts ys ≡ true → each_lasts (xs ++ ys) ≡ true
 lasts-append [] ys h g = g
 lasts-append (x ∷ xs) ys h g = grind (arith, lasts-append xs ys)
 
-zeros-append : (xs ys : List Spell) → zero_first xs ≡ true → each_lasts ys ≡ true → zero_first (xs ++ ys) ≡ true
+zeros-append : (xs ys : List Activity) → zero_first xs ≡ true → each_lasts ys ≡ true → zero_first (xs ++ ys) ≡ true
 zeros-append [] [] h g = refl
 zeros-append [] (y ∷ ys) h g = grind (arith, nat_tests)
 zeros-append (x ∷ xs) ys h g = grind (arith, lasts-append xs ys)
@@ -34,23 +34,23 @@ zeros-append (x ∷ xs) ys h g = grind (arith, lasts-append xs ys)
 pub record Adds (ys : List Row) : Type 0 where
   pub ranges : each_row in_past_range ys ≡ true
   pub rests : (name : List ℕ) → rests_of name ys ≡ []
-  pub toils : (name : List ℕ) → toils_of name ys ≡ []
-  pub lasts : (name : List ℕ) → each_lasts (did_spells name ys) ≡ true
+  pub past_works : (name : List ℕ) → past_working_times_of name ys ≡ []
+  pub lasts : (name : List ℕ) → each_lasts (did_activities name ys) ≡ true
 
 pub text-append : (xs ys : List Row) → HasPastRows xs → length xs + length ys ≤ 1048576 → Adds ys → HasPastRows (xs ++ ys)
 text-append xs ys h few a = record {
   few = omega (arith, length-append xs ys);
   ranges = ranges-append xs ys h.ranges a.ranges;
   rests = λ (name : List ℕ). rw (rows-append (rest_in name) (rests_of name) (rest-rows name) xs ys, a.rests name, append-nil (rests_of name xs)) (h.rests name);
-  toils = λ (name : List ℕ). rw (rows-append (toil_in name) (toils_of name) (toil-rows name) xs ys, a.toils name, append-nil (toils_of name xs)) (h.toils name);
-  zeros = λ (name : List ℕ). rw (rows-append (did_in name) (did_spells name) (did-rows name) xs ys) (zeros-append (did_spells name xs) (did_spells name ys) (h.zeros name) (a.lasts name));
+  past_works = λ (name : List ℕ). rw (rows-append (past_working_time_in name) (past_working_times_of name) (past_work-rows name) xs ys, a.past_works name, append-nil (past_working_times_of name xs)) (h.past_works name);
+  zeros = λ (name : List ℕ). rw (rows-append (did_in name) (did_activities name) (did-rows name) xs ys) (zeros-append (did_activities name xs) (did_activities name ys) (h.zeros name) (a.lasts name));
 }
 
 pub adds-past : (row : ℕ) (driver : List ℕ) (w : Word) (minutes : ℕ) → 1 ≤ minutes → minutes ≤ 2000000 → Adds (Past row driver w minutes ∷ [])
 adds-past row driver w minutes l h =
     let low : leb 1 minutes ≡ true = le-leb 1 minutes l in
     let high : leb minutes 2000000 ≡ true = le-leb minutes 2000000 h in
-    record { ranges = rw (low, high) refl; rests = λ (name : List ℕ). refl; toils = λ (name : List ℕ). refl; lasts = λ (name : List ℕ). refl }
+    record { ranges = rw (low, high) refl; rests = λ (name : List ℕ). refl; past_works = λ (name : List ℕ). refl; lasts = λ (name : List ℕ). refl }
 
 pub adds-did : (row : ℕ) (driver : List ℕ) (w : Word) (minutes : ℕ) → 1 ≤ minutes → minutes ≤ 10080 → Adds (Did row driver w minutes ∷ [])
 adds-did row driver w minutes l h =
@@ -59,7 +59,7 @@ adds-did row driver w minutes l h =
     record {
       ranges = rw high refl;
       rests = λ (name : List ℕ). refl;
-      toils = λ (name : List ℕ). refl;
+      past_works = λ (name : List ℕ). refl;
       lasts = λ (name : List ℕ). elim (cases_Bool (bytes_eq driver name)) [
         | inl t ↦ rw (t, low) refl
         | inr f ↦ rw f refl

@@ -16,7 +16,7 @@ use Rattle.hours_rules.specs.Standing.{Stands}
 use Rattle.hours_rules.specs.Machine.{run_ended, ticked, rested, weekly_here}
 use Rattle.hours_rules.proofs.Blocks.{stands-off_block}
 use Rattle.hours_rules.proofs.Faults.{block-stands}
-use Rattle.driver_history.specs.Carrying.{Left, carry, add_off, add_duty, end_off}
+use Rattle.driver_history.specs.Carrying.{SinceWeeklyRestFields, carry, add_off, add_duty, end_off}
 use Rattle.driver_history.proofs.Carry.{whole_of, weekly_ends, whole-end_off, whole-add_duty, prev-end_off, open-end_off, open-add_duty, prev-add_duty, declared-add_duty}
 
 -- the clock once some minutes more have passed, where the open run was declared to be of this kind
@@ -47,7 +47,7 @@ declared_by declared [] = declared
 declared_by declared (s ∷ ss) = declared_by (declared_after s) ss
 
 -- the clock has the length of the line since its last weekly rest, of that rest and of the open run
-pub record Tracks (c : Left) (k : Clock) (declared : Kind) : Type 0 where
+pub record Tracks (c : SinceWeeklyRestFields) (k : Clock) (declared : Kind) : Type 0 where
   pub off : k.off ≡ c.open_off
   pub kind : declared ≡ c.declared
   pub since : (pos k.at -ℤ k.rest_from) ≡ pos (whole_of c)
@@ -64,10 +64,10 @@ since_step : (b : Bool) (at n whole : ℕ) (from : ℤ) → (pos at -ℤ from) �
 since_step true at n whole from h = omega (arith, ints)
 since_step false at n whole from h = omega (arith, ints)
 
-weekly_is : (c : Left) (k : Clock) (d : Kind) → Tracks c k d → weekly_here k d ≡ weekly_ends c
+weekly_is : (c : SinceWeeklyRestFields) (k : Clock) (d : Kind) → Tracks c k d → weekly_here k d ≡ weekly_ends c
 weekly_is c k d t = rw (t.off, t.kind) refl
 
-pub tracks-duty : (c : Left) (k : Clock) (d : Kind) (m : Mark) (n : ℕ) → Tracks c k d →
+pub tracks-duty : (c : SinceWeeklyRestFields) (k : Clock) (d : Kind) (m : Mark) (n : ℕ) → Tracks c k d →
     Tracks (add_duty (end_off c) m n) (ticked (run_ended k d) m n) Plain
 tracks-duty c k d m n t = record {
   off = sym (open-add_duty (end_off c) m n ∙ open-end_off c);
@@ -77,7 +77,7 @@ tracks-duty c k d m n t = record {
   prev = rw (prev-add_duty (end_off c) m n, prev-end_off c, weekly_is c k d t, t.off, t.prev) refl;
 }
 
-pub tracks-off : (c : Left) (k : Clock) (d kind : Kind) (n : ℕ) → Tracks c k d → Tracks (add_off c n kind) (rested k n) kind
+pub tracks-off : (c : SinceWeeklyRestFields) (k : Clock) (d kind : Kind) (n : ℕ) → Tracks c k d → Tracks (add_off c n kind) (rested k n) kind
 tracks-off c k d kind n t = record {
   off = let o = t.off in omega arith;
   kind = refl;
@@ -85,7 +85,7 @@ tracks-off c k d kind n t = record {
   prev = t.prev;
 }
 
-pub tracks-carry : (c : Left) (k : Clock) (d : Kind) (s : Stint) → Tracks c k d →
+pub tracks-carry : (c : SinceWeeklyRestFields) (k : Clock) (d : Kind) (s : Stint) → Tracks c k d →
     Tracks (carry c s) (after_block k d s.mark s.minutes) (declared_after s)
 tracks-carry c k d s t =
     elim (cases_Bool (is_off s.mark)) [
@@ -93,7 +93,7 @@ tracks-carry c k d s t =
       | inr o ↦ rw o (tracks-duty c k d s.mark s.minutes t)
     ]
 
-pub tracks-fold : (ss : List Stint) (c : Left) (k : Clock) (d : Kind) → Tracks c k d →
+pub tracks-fold : (ss : List Stint) (c : SinceWeeklyRestFields) (k : Clock) (d : Kind) → Tracks c k d →
     Tracks (fold carry c ss) (watch k d ss) (declared_by d ss)
 tracks-fold [] c k d t = t
 tracks-fold (s ∷ ss) c k d t = tracks-fold ss (carry c s) _ _ (tracks-carry c k d s t)

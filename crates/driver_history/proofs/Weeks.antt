@@ -15,11 +15,13 @@ use Rattle.hours_rules.specs.Rules.{Past, fault}
 use Rattle.hours_rules.specs.Standing.{Stands}
 use Rattle.hours_rules.specs.Machine.{at_monday, rested}
 use Rattle.hours_rules.specs.Stints.{before_history}
-use Rattle.hours_rules.specs.Verdicts.{past_of, week_of}
+use Rattle.hours_rules.specs.Debts.{Debt}
+use Rattle.hours_rules.specs.Verdicts.{debt_from, past_of, week_minutes}
 use Rattle.hours_rules.proofs.Blocks.{stands-off_block}
 use Rattle.hours_rules.proofs.Starts.{stands-monday}
+use Rattle.hours_rules.proofs.DebtSizes.{no_weekly-history}
 use Rattle.hours_rules.proofs.Faults.{fault-off}
-use Rattle.driver_history.specs.Carrying.{Left, no_line, rest, carry, add_off}
+use Rattle.driver_history.specs.Carrying.{SinceWeeklyRestFields, no_line, rest, carry, add_off}
 use Rattle.driver_history.specs.Advancing.{left_of}
 use Rattle.driver_history.specs.Keeping.{IsKept, held}
 use Rattle.driver_history.proofs.Carry.{all_total, fold_small}
@@ -27,9 +29,9 @@ use Rattle.driver_history.proofs.Watching.{Tracks, tracks-fold, tracks-off, watc
 use Rattle.driver_history.proofs.Bounds.{kept-off, kept-fold}
 use Rattle.driver_history.proofs.Pasts.{uncut-fold, past-fold, lasts-line, lasts-past, cuts-past}
 
--- the clock before the first minute after a weekly rest
-abbrev pub first_clock : ℕ → ℕ → ℕ → Clock
-first_clock weekly drive work = record {
+-- the clock before the first minute after a weekly rest, where this debt stands
+abbrev pub first_clock : ℕ → ℕ → ℕ → Debt → Clock
+first_clock weekly drive work debt = record {
   at = 0;
   off = 0;
   day_from = pos 0;
@@ -48,10 +50,13 @@ first_clock weekly drive work = record {
   work_week = 0;
   prev_drive = drive;
   work_before = work;
+  owed = debt.owed;
+  due = debt.due;
 }
 
-first-stands : (weekly drive work : ℕ) → Stands (first_clock weekly drive work) (record { minutes = []; prev_weekly = weekly; prev_drive = drive; work_before = work }) []
-first-stands weekly drive work = record {
+pub first-stands : (weekly drive work : ℕ) (debt : Debt) →
+    Stands (first_clock weekly drive work debt) (record { minutes = []; prev_weekly = weekly; prev_drive = drive; work_before = work; debt = debt }) []
+first-stands weekly drive work debt = record {
   at = refl;
   off = refl;
   day_from = refl;
@@ -70,25 +75,27 @@ first-stands weekly drive work = record {
   work_week = refl;
   prev_drive = refl;
   work_before = refl;
+  owed = refl;
+  due = refl;
 }
 
-first-tracks : (weekly drive work : ℕ) → Tracks (no_line weekly) (first_clock weekly drive work) Plain
-first-tracks weekly drive work = record { off = refl; kind = refl; since = refl; prev = refl }
+first-tracks : (weekly drive work : ℕ) (debt : Debt) → Tracks (no_line weekly) (first_clock weekly drive work debt) Plain
+first-tracks weekly drive work debt = record { off = refl; kind = refl; since = refl; prev = refl }
 
 -- what the history's stints leave
-abbrev pub past_left : History → Left
+abbrev pub past_left : History → SinceWeeklyRestFields
 past_left h = fold carry (no_line h.prev_weekly) h.stints.stints
 
 -- the clock of the history's stints
 abbrev pub past_clock : History → Clock
-past_clock h = watch (first_clock h.prev_weekly h.prev_drive (sum h.work16)) Plain h.stints.stints
+past_clock h = watch (first_clock h.prev_weekly h.prev_drive (sum h.work16) (debt_from (fields_of h))) Plain h.stints.stints
 
 pub past-lasts : (h : History) → each_lasts h.stints.stints ≡ true
 past-lasts h = lasts-past false h.stints.stints h.shape
 
 pub past-stands : (h : History) → Stands (past_clock h) (before_history h) (reached_by h.stints.stints).minutes
-past-stands h = stands-watch h.stints.stints (first_clock h.prev_weekly h.prev_drive (sum h.work16)) (before_history h) nothing Plain refl (past-lasts h)
-    (first-stands h.prev_weekly h.prev_drive (sum h.work16))
+past-stands h = stands-watch h.stints.stints (first_clock h.prev_weekly h.prev_drive (sum h.work16) (debt_from (fields_of h))) (before_history h) nothing Plain refl (past-lasts h)
+    (first-stands h.prev_weekly h.prev_drive (sum h.work16) (debt_from (fields_of h)))
 
 -- the clock of a history on Monday
 abbrev pub monday_clock : History → Clock
@@ -96,14 +103,14 @@ monday_clock h = at_monday (rested (past_clock h) h.open_off)
 
 pub monday-stands : (h : History) → Stands (monday_clock h) (past_of h) []
 monday-stands h =
-    stands-monday (rested (past_clock h) h.open_off) (before_history h) (stretch h.open_off Off Plain (reached_by h.stints.stints).minutes) refl
+    stands-monday (rested (past_clock h) h.open_off) (before_history h) (stretch h.open_off Off Plain (reached_by h.stints.stints).minutes) refl (no_weekly-history h)
     (stands-off_block (past_clock h) (before_history h) h.open_off Plain (reached_by h.stints.stints).minutes (past-stands h))
 
 -- what is left on Monday
-abbrev pub monday_left : History → Left
+abbrev pub monday_left : History → SinceWeeklyRestFields
 monday_left h = add_off (past_left h) h.open_off Plain
 
-tracks-monday : (c : Left) (k : Clock) (d : Kind) → Tracks c k d → Tracks c (at_monday k) d
+tracks-monday : (c : SinceWeeklyRestFields) (k : Clock) (d : Kind) → Tracks c k d → Tracks c (at_monday k) d
 tracks-monday c k d t = record {
   off = t.off;
   kind = t.kind;
@@ -115,8 +122,8 @@ pub monday-tracks : (h : History) → Tracks (monday_left h) (monday_clock h) Pl
 monday-tracks h =
     tracks-monday (monday_left h) (rested (past_clock h) h.open_off) Plain
     (tracks-off (past_left h) (past_clock h) (declared_by Plain h.stints.stints) Plain h.open_off
-    (tracks-fold h.stints.stints (no_line h.prev_weekly) (first_clock h.prev_weekly h.prev_drive (sum h.work16)) Plain
-    (first-tracks h.prev_weekly h.prev_drive (sum h.work16))))
+    (tracks-fold h.stints.stints (no_line h.prev_weekly) (first_clock h.prev_weekly h.prev_drive (sum h.work16) (debt_from (fields_of h))) Plain
+    (first-tracks h.prev_weekly h.prev_drive (sum h.work16) (debt_from (fields_of h)))))
 
 pub kept-past : (h : History) → IsKept (past_left h)
 kept-past h =
@@ -138,7 +145,7 @@ pub held-monday : (h : History) → held (monday_left h) ≤ 40320
 held-monday h = let t = h.total in let r = h.run in omega (arith, fold_small h.stints.stints (no_line h.prev_weekly))
 
 -- what is left of a lawful week's line is what a history may hold
-pub kept-week : (h : History) (line : Line) → total_of line.stints ≤ 10080 → fault (past_of h) (week_of line) ≡ None → IsKept (left_of (fields_of h) line.stints)
+pub kept-week : (h : History) (line : Line) → total_of line.stints ≤ 10080 → fault (past_of h) (week_minutes line) ≡ None → IsKept (left_of (fields_of h) line.stints)
 kept-week h line t f =
     let none : fault (past_of h) (fold add_stint nothing line.stints).minutes ≡ None =
     sym (fault-off 0 (past_of h) (10080 - length (reached_by line.stints).minutes) Plain (reached_by line.stints).minutes) ∙ f in
@@ -148,6 +155,6 @@ kept-week h line t f =
     (kept-off (past_left h) h.open_off Plain (kept-past h)) (omega (arith, held-monday h)) none))
 
 -- a week in which nothing is done breaks no rule
-pub lawful-idle : (past : Past) (line : Line) → line.stints ≡ [] → fault past (week_of line) ≡ None
+pub lawful-idle : (past : Past) (line : Line) → line.stints ≡ [] → fault past (week_minutes line) ≡ None
 lawful-idle past line e =
     fault-off 0 past (10080 - length (reached_by line.stints).minutes) Plain (reached_by line.stints).minutes ∙ rw e refl

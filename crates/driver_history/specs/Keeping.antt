@@ -2,11 +2,11 @@
 use Rattle.std.specs.Prelude.{◌≡◌, ℕ, ◌+◌, ◌≤◌, true, false}
 use Rattle.minute_line.specs.Minutes.{total_of}
 use Rattle.minute_line.specs.Stints.{is_past}
-use Rattle.driver_history.specs.declared.carrying.Carried.{Carried}
-use Rattle.driver_history.specs.Carrying.{Left, all_stints}
+use Rattle.driver_history.specs.declared.carrying.SinceWeeklyRest.{SinceWeeklyRest}
+use Rattle.driver_history.specs.Carrying.{SinceWeeklyRestFields, all_stints}
 
 -- what the struct holds
-abbrev pub seen : Carried → Left
+abbrev pub seen : SinceWeeklyRest → SinceWeeklyRestFields
 seen c = record {
   prev_weekly = c.prev_weekly;
   stints = c.stints.items;
@@ -17,11 +17,11 @@ seen c = record {
 }
 
 -- the minutes of the block and the run at the end
-abbrev pub held : Left → ℕ
+abbrev pub held : SinceWeeklyRestFields → ℕ
 held c = c.minutes + c.open_off
 
 -- what is left keeps the bounds of a history
-pub record IsKept (c : Left) : Type 0 where
+pub record IsKept (c : SinceWeeklyRestFields) : Type 0 where
   pub rest : 1440 ≤ c.prev_weekly
   pub short : c.prev_weekly ≤ 1000000
   pub shape : is_past false (all_stints c) ≡ true

@@ -1,4 +1,6 @@
 pub mod Carrying
+pub mod Debts
+pub mod Owing
 pub mod Advancing
 pub mod Keeping
 pub mod Reading

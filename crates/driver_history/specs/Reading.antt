@@ -3,11 +3,13 @@ use Rattle.std.specs.Prelude.{ℕ, ◌-◌, Bool, true, false, ◌&&◌, if◌th
 use Rattle.minute_line.specs.declared.marks.Mark.TheVariants as mark
 use Rattle.minute_line.specs.declared.marks.Kind.TheVariants.{Plain, Daily, Weekly}
 use Rattle.minute_line.specs.declared.marks.Stint.{Stint}
+use Rattle.minute_line.specs.declared.lines.TheConstants.{WEEK_MINUTES}
 use Rattle.minute_line.specs.Histories.{Fields}
+use Rattle.minute_line.specs.Debts.{with_rest_debt}
 use Rattle.week_book.specs.declared.rows.Row.{Row}
 use Rattle.week_book.specs.declared.rows.Word.{Word}
 use Rattle.week_book.specs.declared.rows.Word.TheVariants as word
-use Rattle.week_book.specs.Pasts.{Spell, Rested, Toil, past_spells, did_spells, rests_of, toils_of, is_off_word}
+use Rattle.week_book.specs.Pasts.{Activity, Rested, PastWorkingTime, past_activities, did_activities, rests_of, past_working_times_of, is_off_word}
 use Rattle.driver_history.specs.declared.errors.HistoryError.{HistoryError}
 use Rattle.driver_history.specs.declared.errors.HistoryError.TheVariants as past_error
 use Rattle.driver_history.specs.declared.errors.LineError.{LineError}
@@ -24,7 +26,7 @@ stint_by word.Daily minutes = rest minutes Daily
 stint_by word.Weekly minutes = rest minutes Weekly
 
 -- the stint that a row says
-abbrev pub stint_of : Spell → Stint
+abbrev pub stint_of : Activity → Stint
 stint_of s = stint_by s.word s.minutes
 
 -- the word of a weekly rest
@@ -33,42 +35,42 @@ is_weekly_word word.Weekly = true
 is_weekly_word _ = false
 
 -- the first WEEKLY row that another row follows
-abbrev pub late_weekly : List Spell → Option ℕ
+abbrev pub late_weekly : List Activity → Option ℕ
 late_weekly [] = None
 late_weekly (s ∷ ss) = if is_weekly_word s.word && nat_le 1 (length ss) then Some s.row else late_weekly ss
 
 -- the first off row that stands right after another; `after_off` says that one is before them all
-abbrev pub second_off : Bool → List Spell → Option ℕ
+abbrev pub second_off : Bool → List Activity → Option ℕ
 second_off after_off [] = None
 second_off after_off (s ∷ ss) = if after_off && is_off_word s.word then Some s.row else second_off (is_off_word s.word) ss
 
 -- the minutes of some rows
-abbrev pub minutes_of : List Spell → ℕ
-minutes_of spells = sum_by (λ s. s.minutes) spells
+abbrev pub minutes_of : List Activity → ℕ
+minutes_of activities = sum_by (λ s. s.minutes) activities
 
 -- the minutes of a row that is off, and none of another
-abbrev pub off_in : Spell → ℕ
+abbrev pub off_in : Activity → ℕ
 off_in s = if is_off_word s.word then s.minutes else 0
 
 -- the minutes of the off row at their end
-abbrev pub trailing_off : List Spell → ℕ
+abbrev pub trailing_off : List Activity → ℕ
 trailing_off [] = 0
 trailing_off (s ∷ ss) = if nat_eq (length ss) 0 then off_in s else trailing_off ss
 
 -- the minutes of the rows before that off row
-abbrev pub minutes_before : List Spell → ℕ
-minutes_before spells = minutes_of spells - trailing_off spells
+abbrev pub minutes_before : List Activity → ℕ
+minutes_before activities = minutes_of activities - trailing_off activities
 
 -- the minutes from the end of the last weekly rest to Monday
 abbrev pub minutes_needed : Rested → ℕ
 minutes_needed rested = unsigned_abs rested.end
 
 -- past rows reach from the rest to Monday, and a history can state them
-abbrev pub sum_fault : Rested → List Spell → Option HistoryError
-sum_fault rested spells =
-    if nat_eq (minutes_of spells) (minutes_needed rested)
-    then (if nat_le (minutes_before spells) 20160 then None else Some (past_error.OverLong (minutes_before spells)))
-    else Some (past_error.NotToMonday (minutes_of spells) (minutes_needed rested))
+abbrev pub sum_fault : Rested → List Activity → Option HistoryError
+sum_fault rested activities =
+    if nat_eq (minutes_of activities) (minutes_needed rested)
+    then (if nat_le (minutes_before activities) 20160 then None else Some (past_error.OverLong (minutes_before activities)))
+    else Some (past_error.NotToMonday (minutes_of activities) (minutes_needed rested))
 
 -- two off rows side by side, or else what their minutes say
 abbrev pub off_fault : Option ℕ → Option HistoryError → Option HistoryError
@@ -81,12 +83,14 @@ weekly_fault (Some row) later = Some (past_error.LateWeekly row)
 weekly_fault None later = later
 
 -- why a driver's past rows make no history after a rest, the first cause in its order
-abbrev pub past_fault : Rested → List Spell → Option HistoryError
-past_fault rested spells = weekly_fault (late_weekly spells) (off_fault (second_off false spells) (sum_fault rested spells))
+abbrev pub past_fault : Rested → List Activity → Option HistoryError
+past_fault rested activities = weekly_fault (late_weekly activities) (off_fault (second_off false activities) (sum_fault rested activities))
 
--- the history that a driver's rows make: past rows carried on from the end of the rest
-abbrev pub history_by : Rested → Toil → List Spell → Fields
-history_by rested toil spells = fields_left (fold carry (no_line rested.minutes) (map stint_of spells)) toil.last toil.weeks
+-- the history that a driver's rows make: past rows carried on from the end of the rest, and the debt that it left
+abbrev pub history_by : Rested → PastWorkingTime → List Activity → Fields
+history_by rested past_work activities =
+    with_rest_debt rested.minutes (minutes_needed rested)
+    (fields_left (fold carry (no_line rested.minutes) (map stint_of activities)) past_work.last past_work.weeks)
 
 -- that history, unless there is a cause against it
 abbrev pub unless : Option HistoryError → Fields → Result Fields HistoryError
@@ -94,8 +98,8 @@ unless (Some fault) fields = Err fault
 unless None fields = Ok fields
 
 -- the history of a driver with a rest row and a worked row
-abbrev pub history_said : Rested → Toil → List Spell → Result Fields HistoryError
-history_said rested toil spells = unless (past_fault rested spells) (history_by rested toil spells)
+abbrev pub history_said : Rested → PastWorkingTime → List Activity → Result Fields HistoryError
+history_said rested past_work activities = unless (past_fault rested activities) (history_by rested past_work activities)
 
 -- a history that is there
 abbrev pub some_history : Result Fields HistoryError → Result (Option Fields) HistoryError
@@ -108,25 +112,25 @@ first_of [] = None
 first_of (x ∷ xs) = Some x
 
 -- no history without rows; a rest row, and a worked row, where there is any
-abbrev pub by_rows : Option Rested → Option Toil → List Spell → Result (Option Fields) HistoryError
+abbrev pub by_rows : Option Rested → Option PastWorkingTime → List Activity → Result (Option Fields) HistoryError
 by_rows None None [] = Ok None
 by_rows None _ _ = Err past_error.NoRest
-by_rows (Some rested) None spells = Err past_error.NoWorked
-by_rows (Some rested) (Some toil) spells = some_history (history_said rested toil spells)
+by_rows (Some rested) None activities = Err past_error.NoWorked
+by_rows (Some rested) (Some past_work) activities = some_history (history_said rested past_work activities)
 
 -- the history that the rows say of the driver of this name
 abbrev pub past_said : List ℕ → List Row → Result (Option Fields) HistoryError
-past_said name rows = by_rows (first_of (rests_of name rows)) (first_of (toils_of name rows)) (past_spells name rows)
+past_said name rows = by_rows (first_of (rests_of name rows)) (first_of (past_working_times_of name rows)) (past_activities name rows)
 
 -- a line of at most a week
-abbrev pub line_within : List Spell → Result (List Stint) LineError
-line_within spells = if nat_le (minutes_of spells) 10080 then Ok (map stint_of spells) else Err (line_error.TooLong (minutes_of spells))
+abbrev pub line_within : List Activity → Result (List Stint) LineError
+line_within activities = if nat_le (minutes_of activities) WEEK_MINUTES then Ok (map stint_of activities) else Err (line_error.TooLong (minutes_of activities))
 
 -- no two off rows side by side in it
-abbrev pub line_by : Option ℕ → List Spell → Result (List Stint) LineError
-line_by (Some row) spells = Err (line_error.TwoOffs row)
-line_by None spells = line_within spells
+abbrev pub line_by : Option ℕ → List Activity → Result (List Stint) LineError
+line_by (Some row) activities = Err (line_error.TwoOffs row)
+line_by None activities = line_within activities
 
 -- the week's line that the rows say of the driver of this name, one stint a row
 abbrev pub line_said : List ℕ → List Row → Result (List Stint) LineError
-line_said name rows = line_by (second_off false (did_spells name rows)) (did_spells name rows)
+line_said name rows = line_by (second_off false (did_activities name rows)) (did_activities name rows)

@@ -1,5 +1,6 @@
 // What is left of a line of stints after its last weekly rest, stint by stint.
 ghost use Rattle.std.specs.Prelude.{◌≡◌, ◌+◌, ◌≤◌, fold, length, true, IfOk};
+ghost use Rattle.minute_line.specs.declared.lines.TheConstants.{WEEK_MINUTES};
 ghost use Rattle.minute_line.specs.Histories.{fields_of};
 ghost use Rattle.minute_line.specs.Minutes.{total_of};
 ghost use Rattle.minute_line.specs.Stints.{all_up_to};
@@ -15,7 +16,7 @@ pub const LONGEST_OPEN_RUN: u32 = 20160;
 /// What is left of a line so far: the last weekly rest that ended, the stints since then, the on-duty block at their
 /// end, and the off run after it. Lengths are minutes.
 #[derive(Drop)]
-pub struct Carried {
+pub struct SinceWeeklyRest {
     pub prev_weekly: u32,
     pub stints: Vec<Stint>,
     pub mark: Mark,
@@ -24,12 +25,12 @@ pub struct Carried {
     pub declared: Kind,
 }
 
-impl Carried {
+impl SinceWeeklyRest {
     /// The line after a weekly rest of this length, before its first minute.
-    pub fn after(alloc: Global, prev_weekly: u32) -> Carried
+    pub fn after(alloc: Global, prev_weekly: u32) -> SinceWeeklyRest
         ensures { seen result ≡ no_line prev_weekly }
     {
-        Carried {
+        SinceWeeklyRest {
             prev_weekly,
             stints: Vec::new(alloc),
             mark: Mark::Work,
@@ -43,7 +44,7 @@ impl Carried {
     fn into_stints(self) -> Result<Vec<Stint>, AllocError>
         ensures { IfOk result (λ stints. stints.items ≡ all_stints (seen self)) }
     {
-        let Carried {
+        let SinceWeeklyRest {
             mark,
             minutes,
             mut stints,
@@ -61,11 +62,11 @@ impl Carried {
     }
 
     /// Off minutes lengthen the off run, and say what it is.
-    pub fn rest(self, minutes: u32, kind: Kind) -> Carried
+    pub fn rest(self, minutes: u32, kind: Kind) -> SinceWeeklyRest
         requires { self.open_off + minutes ≤ 4000000 }
         ensures { seen result ≡ add_off (seen self) minutes kind }
     {
-        Carried {
+        SinceWeeklyRest {
             open_off: self.open_off + minutes,
             declared: kind,
             ..self
@@ -73,7 +74,7 @@ impl Carried {
     }
 
     /// The off run ends: after a weekly one nothing before it is left.
-    fn end_run(self, alloc: Global) -> Result<Carried, AllocError>
+    fn end_run(self, alloc: Global) -> Result<SinceWeeklyRest, AllocError>
         ensures { IfOk result (λ next. seen next ≡ end_off (seen self)) }
     {
         if self.open_off == 0 {
@@ -82,7 +83,7 @@ impl Carried {
         let open_off = self.open_off;
         let declared = self.declared;
         if declared.is_weekly() {
-            return Ok(Carried::after(alloc, open_off));
+            return Ok(SinceWeeklyRest::after(alloc, open_off));
         }
         let prev_weekly = self.prev_weekly;
         let mut stints = self.into_stints()?;
@@ -91,19 +92,19 @@ impl Carried {
             minutes: open_off,
             kind: declared,
         })?;
-        Ok(Carried {
+        Ok(SinceWeeklyRest {
             stints,
-            ..Carried::after(alloc, prev_weekly)
+            ..SinceWeeklyRest::after(alloc, prev_weekly)
         })
     }
 
     /// On-duty minutes join those of the same mark right before them.
-    fn work(self, mark: Mark, minutes: u32) -> Result<Carried, AllocError>
+    fn work(self, mark: Mark, minutes: u32) -> Result<SinceWeeklyRest, AllocError>
         requires { self.minutes + minutes ≤ 4000000 }
         ensures { IfOk result (λ next. seen next ≡ add_duty (seen self) mark minutes) }
     {
         if is_same(self.mark, mark) {
-            return Ok(Carried {
+            return Ok(SinceWeeklyRest {
                 mark,
                 minutes: self.minutes + minutes,
                 declared: Kind::Plain,
@@ -113,7 +114,7 @@ impl Carried {
         let prev_weekly = self.prev_weekly;
         let open_off = self.open_off;
         let stints = self.into_stints()?;
-        Ok(Carried {
+        Ok(SinceWeeklyRest {
             prev_weekly,
             stints,
             mark,
@@ -124,7 +125,7 @@ impl Carried {
     }
 
     /// The line with one more stint.
-    fn carry(self, alloc: Global, stint: &Stint) -> Result<Carried, AllocError>
+    fn carry(self, alloc: Global, stint: &Stint) -> Result<SinceWeeklyRest, AllocError>
         requires { held (seen self) + stint.now.minutes ≤ 4000000 }
         ensures { IfOk result (λ next. seen next ≡ carry (seen self) stint.now) }
     {
@@ -136,7 +137,7 @@ impl Carried {
     }
 
     /// The line with more stints.
-    pub fn carry_all(self, alloc: Global, stints: &[Stint]) -> Result<Carried, AllocError>
+    pub fn carry_all(self, alloc: Global, stints: &[Stint]) -> Result<SinceWeeklyRest, AllocError>
         requires { held (seen self) + total_of stints.now ≤ 4000000 }
         ensures { IfOk result (λ next. seen next ≡ fold carry (seen self) stints.now) }
     {
@@ -147,11 +148,11 @@ impl Carried {
         Ok(left)
     }
 
-    /// The history that states this, with the work of the weeks before.
+    /// The history that states this, with the work of the weeks before, and nothing owed.
     pub fn into_history(self, prev_drive: u32, work16: [u32; 16]) -> Result<History, AllocError>
         requires kept { IsKept (seen self) }
-        requires drive { prev_drive ≤ 10080 }
-        requires weeks { all_up_to 10080 work16 ≡ true }
+        requires drive { prev_drive ≤ WEEK_MINUTES }
+        requires weeks { all_up_to WEEK_MINUTES work16 ≡ true }
         ensures { IfOk result (λ history. fields_of history ≡ fields_left (seen self) prev_drive work16) }
     {
         let prev_weekly = self.prev_weekly;
@@ -165,6 +166,8 @@ impl Carried {
             open_off,
             prev_drive,
             work16,
+            owed: 0,
+            due: 0,
         })
     }
 }

@@ -2,17 +2,18 @@
 //! minutes in UTC.
 #![tactic(auto)]
 
+mod activities;
 mod carrying;
 mod errors;
 mod laws;
 mod moves;
+mod owing;
 mod reading;
 mod rests;
-mod spells;
 #[cfg(test)]
 mod tests;
 
 pub use errors::{HistoryError, LineError};
-pub use laws::advance_lasts;
+pub use laws::{advance_lasts, idle_is_advances, idle_settles, rows_last};
 pub use moves::{advance, idle};
 pub use reading::{read_line, read_past};

@@ -3,16 +3,15 @@ ghost use Rattle.std.specs.Prelude.{◌≡◌, ◌+◌, ◌≤◌, ◌<◌, ◌^
 ghost use Rattle.minute_line.specs.Minutes.{total_of};
 ghost use Rattle.minute_line.specs.Histories.{fields_of};
 ghost use Rattle.hours_rules.specs.Rules.{fault};
-ghost use Rattle.hours_rules.specs.Verdicts.{past_of, week_of};
+ghost use Rattle.hours_rules.specs.Verdicts.{past_of, week_minutes};
 ghost use Rattle.driver_history.specs.Advancing.{drive_total, work_total, left_of, advance_of, idle_of};
+ghost use Rattle.driver_history.specs.Owing.{owed_left};
 ghost use Rattle.driver_history.specs.Keeping.{seen};
 
-use crate::carrying::Carried;
-use minute_line::{History, Kind, Line, Many, Memory, Stint, copy_history};
+use crate::carrying::SinceWeeklyRest;
+use crate::owing::{Owed, Owing};
+use minute_line::{History, Kind, Line, Many, Memory, Stint, WEEK_MINUTES, copy_history};
 use std::alloc::Global;
-
-/// The minutes of a week.
-const WEEK_MINUTES: u32 = 10080;
 
 /// The minutes of some stints.
 fn total(stints: &[Stint]) -> u32
@@ -61,11 +60,11 @@ fn later(weeks: &[u32; 16], last: u32) -> [u32; 16]
 }
 
 /// What is left of the line of a history and a week.
-fn left_after(alloc: Global, history: &History, line: &[Stint]) -> Result<Carried, Memory>
-    requires { total_of line.now ≤ 10080 }
+fn left_after(alloc: Global, history: &History, line: &[Stint]) -> Result<SinceWeeklyRest, Memory>
+    requires { total_of line.now ≤ WEEK_MINUTES }
     ensures { IfOk result (λ left. seen left ≡ left_of (fields_of history.now) line.now) }
 {
-    let past = Carried::after(alloc, history.prev_weekly).carry_all(
+    let past = SinceWeeklyRest::after(alloc, history.prev_weekly).carry_all(
         alloc,
         history.stints.stints.as_slice(),
     )?;
@@ -74,17 +73,34 @@ fn left_after(alloc: Global, history: &History, line: &[Stint]) -> Result<Carrie
     Ok(week.rest(WEEK_MINUTES - total(line), Kind::Plain))
 }
 
+/// The debt where the line begins that is left of a history and a week.
+fn owed_after(history: &History, line: &[Stint]) -> Owed
+    requires { total_of line.now ≤ WEEK_MINUTES }
+    ensures { result ≡ owed_left (fields_of history.now) line.now }
+{
+    let begun = Owed {
+        owed: history.owed,
+        due: history.due,
+    };
+    let past = Owing::from_start(begun).carry_all(history.stints.stints.as_slice());
+    let week = past.on_monday(history.open_off).carry_all(line);
+    week.begun
+}
+
 /// The history after a week that was judged lawful: what is left of the old history and the week's line after the last
 /// weekly rest that ended in the week, or all of it where none ended. The trailing Off is the open run, held at 20,160
-/// minutes; on-duty stints of one mark that stand side by side are joined.
+/// minutes; on-duty stints of one mark that stand side by side are joined. What is owed is the debt where that line
+/// begins, due in weeks from the next Monday on.
 pub fn advance(alloc: Global, history: &History, line: &Line) -> Result<History, Memory>
-    requires total { total_of line.now.stints ≤ 10080 }
-    requires lawful { fault (past_of history.now) (week_of line.now) ≡ None }
+    requires total { total_of line.now.stints ≤ WEEK_MINUTES }
+    requires lawful { fault (past_of history.now) (week_minutes line.now) ≡ None }
     ensures { IfOk result (λ next. fields_of next ≡ advance_of (fields_of history.now) line.now.stints) }
 {
     let week = line.stints.as_slice();
     let left = left_after(alloc, history, week)?;
-    Ok(left.into_history(drive(week), later(&history.work16, work(week)))?)
+    let next = left.into_history(drive(week), later(&history.work16, work(week)))?;
+    let owed = owed_after(history, week);
+    Ok(next.with_debt(owed.owed, owed.weeks_from_next_monday()))
 }
 
 /// The line of a week in which nothing is done.

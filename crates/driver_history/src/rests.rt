@@ -1,9 +1,9 @@
 // What stands before a driver's past rows: the rest and the worked row.
 ghost use Rattle.std.specs.Prelude.{◌≡◌, ◌≤◌, true};
 ghost use Rattle.minute_line.specs.Stints.{all_up_to};
-ghost use Rattle.week_book.specs.Pasts.{Rested, Toil, rests_of, toils_of};
+ghost use Rattle.week_book.specs.Pasts.{Rested, PastWorkingTime, rests_of, past_working_times_of};
 ghost use Rattle.driver_history.specs.Reading.{first_of, minutes_needed};
-ghost use Rattle.driver_history.specs.Finding.{rest_in, toil_in, IsRest, IsToil};
+ghost use Rattle.driver_history.specs.Finding.{rest_in, past_working_time_in, IsRest, IsPastWorkingTime};
 
 use std::marker::Model;
 use week_book::Row;
@@ -29,7 +29,7 @@ pub struct Worked {
 }
 
 impl Model for Worked {
-    ghost Value = { Toil };
+    ghost Value = { PastWorkingTime };
 
     ghost view = { λ w. record { last = w.last; weeks = w.weeks } };
 }
@@ -66,7 +66,7 @@ pub fn find_rest(rows: &[Row], name: &[u8]) -> Option<Rest>
 
 /// What a worked row of the driver says.
 fn worked_row(row: &Row, name: &[u8]) -> Option<Worked>
-    ensures { result ≡ toil_in name.now row.now }
+    ensures { result ≡ past_working_time_in name.now row.now }
 {
     match row {
         Row::Worked {
@@ -84,7 +84,7 @@ fn worked_row(row: &Row, name: &[u8]) -> Option<Worked>
 
 /// The first worked row of a driver.
 pub fn find_worked(rows: &[Row], name: &[u8]) -> Option<Worked>
-    ensures { result ≡ first_of (toils_of name.now rows.now) }
+    ensures { result ≡ first_of (past_working_times_of name.now rows.now) }
 {
     for row in rows {
         if let Some(worked) = worked_row(row, name) {
@@ -114,7 +114,7 @@ impl Rest {
 impl Worked {
     /// Last week's Drive minutes.
     pub fn last_week(&self) -> u32
-        requires { IsToil self.now }
+        requires { IsPastWorkingTime self.now }
         ensures { result ≡ self.now.last }
     {
         self.last as u32
@@ -122,7 +122,7 @@ impl Worked {
 
     /// The working minutes of the sixteen weeks before, the oldest first.
     pub fn sixteen_weeks(&self) -> [u32; 16]
-        requires { IsToil self.now }
+        requires { IsPastWorkingTime self.now }
         ensures { result ≡ self.now.weeks }
     {
         let mut weeks = [0; 16];

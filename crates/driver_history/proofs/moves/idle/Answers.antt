@@ -10,4 +10,5 @@ loop-preserved c = c.in_ok-now-2.ensures ∙ ap (λ (f : Fields). advance_of f [
 pub returns : goal.returns
 returns c =
     c.loop.invariant
-    ∙ idle-most c.args.weeks c.loop.counter (fields_of c.args.history.now) c.args.history.now.shape c.args.history.now.run c.args.history.now.sixteen (omega arith)
+    ∙ idle-most c.args.weeks c.loop.counter (fields_of c.args.history.now) c.args.history.now.shape c.args.history.now.run c.args.history.now.sixteen c.args.history.now.no_debt
+    c.args.history.now.deadline (omega arith)
