@@ -4,23 +4,22 @@ use Rattle.std.proofs.lemmas.Bool.{eqb-true, eq-eqb}
 use Rattle.std.proofs.lemmas.Bool.Decides.{nat_tests}
 use Rattle.std.proofs.lemmas.List.{length-take}
 use Rattle.week_book.specs.declared.weeks.Driver.{Driver}
-use Rattle.week_book.specs.declared.weeks.Week.{Week}
 use Rattle.week_book.specs.Weeks.{driver_of, IsDriver}
 use Rattle.duty_plan.specs.declared.duties.Duty.{Duty}
 use Rattle.duty_plan.specs.declared.plans.Case.{Case}
 use Rattle.duty_plan.specs.declared.plans.Plan.{Plan}
 use Rattle.duty_plan.specs.declared.faults.DutyFault.{DutyFault}
 use Rattle.duty_plan.specs.declared.faults.PlanFault.{PlanFault}
-use Rattle.duty_plan.specs.declared.faults.PlanFault.TheVariants.{Duties, Duty as duty_fails, Twice as in_two_places, Lost}
-use Rattle.duty_plan.specs.Fronts.{Front}
-use Rattle.duty_plan.specs.Duties.{EachOf, IsCase, IsLawful, IsLawfulPlan, front_of, open_off_at, capacity_at, fee_or_none, cost_after, cost_of_duties, cost_of_plan, places_of, times}
+use Rattle.duty_plan.specs.declared.faults.PlanFault.TheVariants.{Duties, Duty as duty_fails}
+use Rattle.duty_plan.specs.PartialDuties.{PartialDuty}
+use Rattle.duty_plan.specs.Duties.{EachOf, IsCase, IsLawful, IsLawfulPlan, partial_of, open_off_at, capacity_at, fee_or_none, cost_after, cost_of_duties, cost_of_plan, times_placed}
 use Rattle.duty_plan.specs.Verdicts.{duty_verdict, after_verdict, duties_fault, plan_answer, plan_verdict, first_twice, first_lost}
-use Rattle.duty_plan.specs.Walks.{ServesOnce}
+use Rattle.duty_plan.specs.DutyChecks.{ServesOnce}
 use Rattle.duty_plan.proofs.Lists.{split-at, take-more}
 use Rattle.duty_plan.proofs.WeekLimits.{all-slice_get, cheap, early, few-steps}
 use Rattle.duty_plan.proofs.Judging.{ok-lawful, lawful-ok}
 use Rattle.duty_plan.proofs.Least.{least-none, none-least}
-use Rattle.duty_plan.proofs.Carrying.{served-once, few-out}
+use Rattle.duty_plan.proofs.Carrying.{served-once}
 
 -- ---- the duties, one driver after another
 
@@ -60,24 +59,24 @@ duties-stop case duties i duty d fault h v l g =
     ∙ (duties_fault-append case 0 i (take i duties) (duty ∷ drop (suc i) duties) here h ∙ duties_fault-one case i duty (drop (suc i) duties) (Err fault) v)
 
 pub cost-more : (case : Case) (duties : List Duty) (i cents cost : ℕ) (duty d : Duty) → cents ≡ cost_of_duties case 0 (take i duties) →
-    cost ≡ cost_after case i (front_of duty) → i < length duties → duty ≡ get_or duties i d → cents + cost ≡ cost_of_duties case 0 (take (i + 1) duties)
+    cost ≡ cost_after case i (partial_of duty) → i < length duties → duty ≡ get_or duties i d → cents + cost ≡ cost_of_duties case 0 (take (i + 1) duties)
 cost-more case duties i cents cost duty d h k l g =
     let here : i ≡ 0 + length (take i duties) = omega (arith, length-take i duties) in
     let more : cost_of_duties case 0 (take (i + 1) duties) ≡ cost_of_duties case 0 (take i duties ++ duty ∷ []) = ap (cost_of_duties case 0) (take-more duties i duty d l g) in
     omega (arith, more, cost_of_duties-append case 0 i (take i duties) (duty ∷ []) here)
 
 -- a lawful duty costs at most so much
-pub cost-small : (case : Case) (driver : ℕ) (duty : Duty) → IsCase case → IsLawful case driver duty → cost_after case driver (front_of duty) ≤ 20170000000
-cost-small case driver duty w l = by_front (front_of duty) refl
+pub cost-small : (case : Case) (driver : ℕ) (duty : Duty) → IsCase case → IsLawful case driver duty → cost_after case driver (partial_of duty) ≤ 20170000000
+cost-small case driver duty w l = by_partial (partial_of duty) refl
   where
     by_driver : (found : Option Driver) → driver_of case.week driver ≡ found → fee_or_none found ≤ 10000000
     by_driver None e = omega arith
     by_driver (Some lorry) e = (all-slice_get IsDriver case.week.drivers driver lorry w.week.drivers e).fee
 
-    by_front : (front : Front) → front_of duty ≡ front → cost_after case driver front ≤ 20170000000
-    by_front [] e = omega arith
-    by_front (step ∷ before) e =
-        let office = rw e at l.front.office in
+    by_partial : (partial : PartialDuty) → partial_of duty ≡ partial → cost_after case driver partial ≤ 20170000000
+    by_partial [] e = omega arith
+    by_partial (step ∷ before) e =
+        let office = rw e at l.partial.office in
         let few = few-steps case.week (open_off_at case driver) (capacity_at case driver) (step ∷ before) w.week office in
         let end = early case.week (open_off_at case driver) (capacity_at case driver) (step ∷ before) office in
         let sum = cheap case.week (open_off_at case driver) (capacity_at case driver) (step ∷ before) w.week office in
@@ -105,12 +104,12 @@ pub lawful-each : (case : Case) (n : ℕ) (duties : List Duty) → ((k m : ℕ) 
     duties_fault case n duties ≡ None
 lawful-each case n [] h = refl
 lawful-each case n (duty ∷ rest) h =
-    duties_fault-one case n duty rest (Ok (cost_after case n (front_of duty))) (ok-lawful case n duty (h 0 n duty (omega arith) refl))
+    duties_fault-one case n duty rest (Ok (cost_after case n (partial_of duty))) (ok-lawful case n duty (h 0 n duty (omega arith) refl))
     ∙ lawful-each case (n + 1) rest (λ k m d e g. h (suc k) m d (omega arith) g)
 
 pub each-once : (case : Case) (duties : List Duty) → duties_fault case 0 duties ≡ None → EachOf ServesOnce duties
 each-once case duties h = λ k duty g order.
-    served-once case.week (open_off_at case k) (capacity_at case k) order (front_of duty) (each-lawful case 0 duties h k k duty (omega arith) g).front.office
+    served-once case.week (open_off_at case k) (capacity_at case k) order (partial_of duty) (each-lawful case 0 duties h k k duty (omega arith) g).partial.office
 
 -- ---- the plan
 
@@ -140,9 +139,9 @@ verdict-lawful case plan known h = by_count (eqb (length plan.duties) (length ca
         let parts = answer-ok (duties_fault case 0 plan.duties) (first_twice case.week plan) (first_lost case.week plan) (cost_of_plan case plan) (ap is_ok (sym same) ∙ h) in record {
           duties = eqb-true (length plan.duties) (length case.week.drivers) e;
           lawful = λ k duty g. each-lawful case 0 plan.duties parts.0 k k duty (omega arith) g;
-          once = λ order l. exactly-one (places_of plan order)
-              (none-least (λ o. leb 2 (places_of plan o)) (length case.week.orders) order parts.1 l)
-              (none-least (λ o. eqb (places_of plan o) 0) (length case.week.orders) order parts.2 l);
+          once = λ order l. exactly-one (times_placed plan order)
+              (none-least (λ o. leb 2 (times_placed plan o)) (length case.week.orders) order parts.1 l)
+              (none-least (λ o. eqb (times_placed plan o) 0) (length case.week.orders) order parts.2 l);
           known = known;
         }
 
@@ -156,8 +155,8 @@ pub lawful-verdict : (case : Case) (plan : Plan) → IsLawfulPlan case plan → 
 lawful-verdict case plan l =
     let count : eqb (length plan.duties) (length case.week.drivers) ≡ true = eq-eqb (length plan.duties) (length case.week.drivers) l.duties in
     let duties : duties_fault case 0 plan.duties ≡ None = lawful-each case 0 plan.duties (λ k m duty e g. let same : k ≡ m = omega arith in subst (λ (x : ℕ). IsLawful case x duty) same (l.lawful k duty g)) in
-    let twice : first_twice case.week plan ≡ None = least-none (λ o. leb 2 (places_of plan o)) (length case.week.orders) (λ o b. one-few (places_of plan o) (l.once o b)) in
-    let lost : first_lost case.week plan ≡ None = least-none (λ o. eqb (places_of plan o) 0) (length case.week.orders) (λ o b. one-some (places_of plan o) (l.once o b)) in
+    let twice : first_twice case.week plan ≡ None = least-none (λ o. leb 2 (times_placed plan o)) (length case.week.orders) (λ o b. one-few (times_placed plan o) (l.once o b)) in
+    let lost : first_lost case.week plan ≡ None = least-none (λ o. eqb (times_placed plan o) 0) (length case.week.orders) (λ o b. one-some (times_placed plan o) (l.once o b)) in
     rw (count, duties, twice, lost) refl
 
 -- what a verdict says in the words of the subject
@@ -177,29 +176,3 @@ tells case plan answer known e = record {
     by_count : (b : Bool) → IfOk (cond b (plan_answer (duties_fault case 0 plan.duties) (first_twice case.week plan) (first_lost case.week plan) (cost_of_plan case plan)) (Err (Duties (length plan.duties)))) (λ cents. cents ≡ cost_of_plan case plan)
     by_count true = answer-cost (duties_fault case 0 plan.duties) (first_twice case.week plan) (first_lost case.week plan) (cost_of_plan case plan)
     by_count false = tt
-
--- ---- verdicts, one test after another
-
-pub verdict-duties : (case : Case) (plan : Plan) (found : PlanFault) → length plan.duties ≡ length case.week.drivers → duties_fault case 0 plan.duties ≡ Some found →
-    plan_verdict case plan ≡ Err found
-verdict-duties case plan found n h = rw (eq-eqb (length plan.duties) (length case.week.drivers) n, h) refl
-
-pub verdict-twice : (case : Case) (plan : Plan) (order : ℕ) → length plan.duties ≡ length case.week.drivers → duties_fault case 0 plan.duties ≡ None →
-    first_twice case.week plan ≡ Some order → plan_verdict case plan ≡ Err (in_two_places order)
-verdict-twice case plan order n h t = rw (eq-eqb (length plan.duties) (length case.week.drivers) n, h, t) refl
-
-pub verdict-lost : (case : Case) (plan : Plan) (order : ℕ) → length plan.duties ≡ length case.week.drivers → duties_fault case 0 plan.duties ≡ None →
-    first_twice case.week plan ≡ None → first_lost case.week plan ≡ Some order → plan_verdict case plan ≡ Err (Lost order)
-verdict-lost case plan order n h t o = rw (eq-eqb (length plan.duties) (length case.week.drivers) n, h, t, o) refl
-
-pub verdict-none : (case : Case) (plan : Plan) (cents : ℕ) → length plan.duties ≡ length case.week.drivers → duties_fault case 0 plan.duties ≡ None →
-    first_twice case.week plan ≡ None → first_lost case.week plan ≡ None → cents ≡ cost_of_plan case plan → plan_verdict case plan ≡ Ok cents
-verdict-none case plan cents n h t o c = rw (eq-eqb (length plan.duties) (length case.week.drivers) n, h, t, o, c) refl
-
--- orders that are in no two places are given away at most once each
-pub few-given : (week : Week) (plan : Plan) → EachOf (λ n order. order < length week.orders) plan.out → first_twice week plan ≡ None →
-    length plan.out ≤ length week.orders
-few-given week plan known h = few-out (length week.orders) plan.out known (λ o l. at_most_one o (none-least (λ x. leb 2 (places_of plan x)) (length week.orders) o h l))
-  where
-    at_most_one : (o : ℕ) → leb 2 (places_of plan o) ≡ false → times o plan.out ≤ 1
-    at_most_one o t = let below : places_of plan o < 2 = grind (arith, nat_tests) in omega arith

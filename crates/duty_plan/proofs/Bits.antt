@@ -1,11 +1,11 @@
--- The orders that a front serves, bit by bit.
+-- The orders that a partial duty serves, bit by bit.
 use Rattle.std.proofs.Common.{◌≡◌, ◌≢◌, ◌||◌, ℕ, zero, suc, ◌+◌, ◌^◌, ◌<◌, max, Bool, true, false, cond, [], ◌∷◌, refl, ap, sym, ◌∙◌, arith, eqb}
 use Rattle.std.specs.Int.{bit_at}
 use Rattle.std.proofs.lemmas.Bool.Decides.{nat_tests}
 use Rattle.std.proofs.lemmas.Nat.Bits.{bit_at_or, bit_at-zero, bit_at-pow_same, bit_at-pow_other}
 use Rattle.duty_plan.specs.declared.duties.Act.{Act}
 use Rattle.duty_plan.specs.declared.duties.Act.TheVariants.{Leg, Serve, Load}
-use Rattle.duty_plan.specs.Fronts.{Front, serves}
+use Rattle.duty_plan.specs.PartialDuties.{PartialDuty, serves}
 use Rattle.duty_plan.specs.Acts.{serves_order}
 use Rattle.duty_plan.specs.Labels.{served_after, bit_of_act, bits_below}
 
@@ -24,7 +24,7 @@ max-bits true false = refl
 max-bits false true = refl
 max-bits false false = refl
 
-pub served_bits : (o : ℕ) (front : Front) → bit_at (served_after front) o ≡ cond (serves o front) 1 0
+pub served_bits : (o : ℕ) (partial : PartialDuty) → bit_at (served_after partial) o ≡ cond (serves o partial) 1 0
 served_bits o [] = bit_at-zero o
 served_bits o (step ∷ before) =
     bit_at_or (served_after before) (bit_of_act step.act) o

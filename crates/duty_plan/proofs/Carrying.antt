@@ -10,8 +10,8 @@ use Rattle.duty_plan.specs.declared.duties.Act.TheVariants.{Leg, Serve, Load}
 use Rattle.duty_plan.specs.declared.duties.Step.{Step}
 use Rattle.duty_plan.specs.declared.duties.Duty.{Duty}
 use Rattle.duty_plan.specs.Acts.{serves_order, order_of_act, is_at, can_be_done}
-use Rattle.duty_plan.specs.Fronts.{Front, serves, is_new, place_after, KeepsOfficeThrough}
-use Rattle.duty_plan.specs.Duties.{times, worth, orders_of, carried, front_of, EachOf}
+use Rattle.duty_plan.specs.PartialDuties.{PartialDuty, serves, is_new, place_after, KeepsOfficeThrough}
+use Rattle.duty_plan.specs.Duties.{times, worth, orders_of, carried, partial_of, EachOf}
 use Rattle.duty_plan.specs.Sums.{total_below}
 use Rattle.duty_plan.proofs.Lists.{reverse-at, reverse-more, take-more, slice_get-lt}
 use Rattle.duty_plan.proofs.Sums.{times-append, share, total-share, total-mono, worth-append}
@@ -26,16 +26,16 @@ or-false : (a b : Bool) → (a || b) ≡ false → (a ≡ false) × (b ≡ false
 or-false true b h = cc
 or-false false b h = (refl, h)
 
--- a front that doesn't serve an order doesn't carry it
-pub unserved : (o : ℕ) (front : Front) → serves o front ≡ false → times o (orders_of front) ≡ 0
+-- a partial duty that doesn't serve an order doesn't carry it
+pub unserved : (o : ℕ) (partial : PartialDuty) → serves o partial ≡ false → times o (orders_of partial) ≡ 0
 unserved o [] h = refl
 unserved o (step ∷ before) h =
     let parts = or-false (serves_order o step.act) (serves o before) h in
     let none : times o (order_of_act step.act) ≡ 0 = act_times o step.act ∙ rw parts.0 refl in
     omega (arith, times-append o (order_of_act step.act) (orders_of before), none, unserved o before parts.1)
 
--- a front that serves an order carries it
-pub is-served : (o : ℕ) (front : Front) → serves o front ≡ true → 1 ≤ times o (orders_of front)
+-- a partial duty that serves an order carries it
+pub is-served : (o : ℕ) (partial : PartialDuty) → serves o partial ≡ true → 1 ≤ times o (orders_of partial)
 is-served o [] h = cc
 is-served o (step ∷ before) h = by_act (serves_order o step.act) refl h (λ s. is-served o before s)
   where
@@ -46,7 +46,7 @@ is-served o (step ∷ before) h = by_act (serves_order o step.act) refl h (λ s.
         omega (arith, times-append o (order_of_act step.act) (orders_of before), one)
     by_act false e t more = omega (arith, times-append o (order_of_act step.act) (orders_of before), more t)
 
-once-act : (o : ℕ) (act : Act) (before : Front) → is_new act before ≡ true → times o (orders_of before) ≤ 1 →
+once-act : (o : ℕ) (act : Act) (before : PartialDuty) → is_new act before ≡ true → times o (orders_of before) ≤ 1 →
     times o (order_of_act act ++ orders_of before) ≤ 1
 once-act o (Leg to) before h more = more
 once-act o Load before h more = more
@@ -63,8 +63,8 @@ once-act o (Serve order) before h more = by_test (eqb o order) refl
         let idle : serves o before ≡ false = ap (λ (x : ℕ). serves x before) same ∙ by_not (serves order before) h in
         rw e (omega (arith, unserved o before idle))
 
--- a front that keeps the office rules serves an order at most once
-pub served-once : (week : Week) (open_off capacity o : ℕ) (front : Front) → KeepsOfficeThrough week open_off capacity front → times o (orders_of front) ≤ 1
+-- a partial duty that keeps the office rules serves an order at most once
+pub served-once : (week : Week) (open_off capacity o : ℕ) (partial : PartialDuty) → KeepsOfficeThrough week open_off capacity partial → times o (orders_of partial) ≤ 1
 served-once week open_off capacity o [] k = omega arith
 served-once week open_off capacity o (step ∷ before) k =
     once-act o step.act before k.0.twice (served-once week open_off capacity o before k.1)
@@ -78,7 +78,7 @@ order-in_week week o p h = by_order (order_of week o) refl h
     by_order (Some order) e h = slice_get-lt week.orders o order e
 
 -- an act serves an order of the week
-known-act : (week : Week) (o : ℕ) (act : Act) (before : Front) → can_be_done week (place_after before) act ≡ true →
+known-act : (week : Week) (o : ℕ) (act : Act) (before : PartialDuty) → can_be_done week (place_after before) act ≡ true →
     (times o (orders_of before) ≢ 0 → o < length week.orders) → times o (order_of_act act ++ orders_of before) ≢ 0 →
     o < length week.orders
 known-act week o (Leg to) before r more some = more some
@@ -93,25 +93,25 @@ known-act week o (Serve order) before r more some = by_test (eqb o order) refl
         let t : times o (order ∷ orders_of before) ≡ 0 + times o (orders_of before) = rw e refl in
         more (λ z. some (omega arith))
 
--- a lawful front serves orders of the week alone
-pub served-known : (week : Week) (open_off capacity o : ℕ) (front : Front) → KeepsOfficeThrough week open_off capacity front →
-    times o (orders_of front) ≢ 0 → o < length week.orders
+-- a lawful partial duty serves orders of the week alone
+pub served-known : (week : Week) (open_off capacity o : ℕ) (partial : PartialDuty) → KeepsOfficeThrough week open_off capacity partial →
+    times o (orders_of partial) ≢ 0 → o < length week.orders
 served-known week open_off capacity o [] k some = absurd (some refl)
 served-known week open_off capacity o (step ∷ before) k some =
     known-act week o step.act before k.0.road (served-known week open_off capacity o before k.1) some
 
 -- ---- as a loop goes
 
-serves-append : (o : ℕ) (later front : Front) → serves o front ≡ true → serves o (later ++ front) ≡ true
-serves-append o [] front h = h
-serves-append o (step ∷ later) front h = rw (serves-append o later front h) (or-true (serves_order o step.act))
+serves-append : (o : ℕ) (later partial : PartialDuty) → serves o partial ≡ true → serves o (later ++ partial) ≡ true
+serves-append o [] partial h = h
+serves-append o (step ∷ later) partial h = rw (serves-append o later partial h) (or-true (serves_order o step.act))
   where
     or-true : (b : Bool) → (b || true) ≡ true
     or-true true = refl
     or-true false = refl
 
 pub serves-found : (o : ℕ) (duty : Duty) (steps : List Step) (i : ℕ) (step d : Step) → steps ≡ duty.steps → serves_order o step.act ≡ true →
-    i < length steps → step ≡ get_or steps i d → serves o (front_of duty) ≡ true
+    i < length steps → step ≡ get_or steps i d → serves o (partial_of duty) ≡ true
 serves-found o duty steps i step d same e l g =
     let here : serves o (step ∷ reverse (take i steps)) ≡ true = rw e refl in
     ap (λ (x : List Step). serves o (reverse x)) (sym same)
@@ -123,14 +123,14 @@ serves-passed o steps i step d e h l g = rw (reverse-more steps i step d l g, e)
 
 pub carried-append : (xs ys : List Duty) → carried (xs ++ ys) ≡ carried xs ++ carried ys
 carried-append [] ys = refl
-carried-append (duty ∷ xs) ys = rw (carried-append xs ys) (sym (append_assoc (orders_of (front_of duty)) (carried xs) (carried ys)))
+carried-append (duty ∷ xs) ys = rw (carried-append xs ys) (sym (append_assoc (orders_of (partial_of duty)) (carried xs) (carried ys)))
 
-pub carried-more : (o : ℕ) (duties : List Duty) (i n m : ℕ) (duty d : Duty) → n ≡ times o (carried (take i duties)) → times o (orders_of (front_of duty)) ≡ m →
+pub carried-more : (o : ℕ) (duties : List Duty) (i n m : ℕ) (duty d : Duty) → n ≡ times o (carried (take i duties)) → times o (orders_of (partial_of duty)) ≡ m →
     i < length duties → duty ≡ get_or duties i d → n + m ≡ times o (carried (take (i + 1) duties))
 carried-more o duties i n m duty d e h l g =
-    let more : times o (carried (take (i + 1) duties)) ≡ times o (carried (take i duties) ++ (orders_of (front_of duty) ++ [])) =
+    let more : times o (carried (take (i + 1) duties)) ≡ times o (carried (take i duties) ++ (orders_of (partial_of duty) ++ [])) =
     ap (λ (x : List Duty). times o (carried x)) (take-more duties i duty d l g) ∙ ap (times o) (carried-append (take i duties) (duty ∷ [])) in
-    omega (arith, more, times-append o (carried (take i duties)) (orders_of (front_of duty) ++ []), times-append o (orders_of (front_of duty)) [])
+    omega (arith, more, times-append o (carried (take i duties)) (orders_of (partial_of duty) ++ []), times-append o (orders_of (partial_of duty)) [])
 
 pub times-more : (o : ℕ) (xs : List ℕ) (i n m x d : ℕ) → n ≡ times o (take i xs) → cond (eqb o x) 1 0 ≡ m → i < length xs → x ≡ get_or xs i d →
     n + m ≡ times o (take (i + 1) xs)
@@ -173,10 +173,10 @@ worth-more f xs i n m x d e h l g =
     omega (arith, more, h, worth-append f (take i xs) (x ∷ []))
 
 -- a duty that serves an order at most once carries it as often as it serves it
-pub served-times : (o : ℕ) (duty : Duty) (b : Bool) (n : ℕ) → b ≡ serves o (front_of duty) → n ≡ cond b 1 0 → times o (orders_of (front_of duty)) ≤ 1 →
-    times o (orders_of (front_of duty)) ≡ n
-served-times o duty true n e h l = omega (arith, is-served o (front_of duty) (sym e), h)
-served-times o duty false n e h l = omega (arith, unserved o (front_of duty) (sym e), h)
+pub served-times : (o : ℕ) (duty : Duty) (b : Bool) (n : ℕ) → b ≡ serves o (partial_of duty) → n ≡ cond b 1 0 → times o (orders_of (partial_of duty)) ≤ 1 →
+    times o (orders_of (partial_of duty)) ≡ n
+served-times o duty true n e h l = omega (arith, is-served o (partial_of duty) (sym e), h)
+served-times o duty false n e h l = omega (arith, unserved o (partial_of duty) (sym e), h)
 
 -- a test as a number
 pub byte-cond : (b : Bool) (n : ℕ) → n ≡ bool_byte b → (n ≡ cond b 1 0) × (n ≤ 1)

@@ -7,7 +7,7 @@ use Rattle.duty_plan.specs.declared.deciding.Pairs.{Pairs}
 use Rattle.duty_plan.specs.declared.pricing.Prices.{Prices}
 use Rattle.duty_plan.specs.declared.pricing.Priced.{Priced}
 use Rattle.duty_plan.specs.declared.pricing.Priced.TheVariants.{Least, Spent}
-use Rattle.duty_plan.specs.Duties.{worth, front_of, orders_of}
+use Rattle.duty_plan.specs.Duties.{worth, partial_of, orders_of}
 use Rattle.duty_plan.specs.Values.{IsLeast, IsPrices, price_at}
 use Rattle.duty_plan.specs.Rounds.{IsRound, IsAnswer}
 
@@ -27,13 +27,13 @@ pub least_home : (case : Case) (driver : ℕ) (pairs : Pairs) (prices : Prices) 
     IsLeast case driver pairs prices (pos 0) (record { steps = [] })
 least_home case driver pairs prices p none = record {
   choice = record {
-    lawful = record { front = record { office = tt; hours = refl }; home = refl };
+    lawful = record { partial = record { office = tt; hours = refl }; home = refl };
     inside = record { forced = λ o l h. absurd (omega arith); barred = λ o l h. absurd (omega arith) };
   };
   has_value = refl;
   lowest = λ duty c.
-      let free : worth (price_at prices) (orders_of (front_of duty)) ≡ 0 =
-      worth-nothing (price_at prices) (orders_of (front_of duty)) (λ o. priceless prices.cents o (p.orders ∙ none)) in
+      let free : worth (price_at prices) (orders_of (partial_of duty)) ≡ 0 =
+      worth-nothing (price_at prices) (orders_of (partial_of duty)) (λ o. priceless prices.cents o (p.orders ∙ none)) in
       omega (arith, ints);
 }
 

@@ -13,9 +13,9 @@ use Rattle.duty_plan.specs.declared.pricing.Prices.{Prices}
 use Rattle.duty_plan.specs.declared.pricing.Priced.{Priced}
 use Rattle.duty_plan.specs.declared.pricing.Priced.TheVariants.{Least}
 use Rattle.duty_plan.specs.Duties.{IsLawful, IsLawfulPlan, cost_of_duties}
-use Rattle.duty_plan.specs.Values.{charge, sum_of, or_zero, IsPrices}
+use Rattle.duty_plan.specs.Values.{lagrangian_term, sum_of, or_zero, IsPrices}
 use Rattle.duty_plan.specs.Sums.{total_below}
-use Rattle.duty_plan.specs.Rounds.{Round, IsRound, IsRun, IsAnswer, has_none, values_of, value_of_round}
+use Rattle.duty_plan.specs.Rounds.{Round, IsRound, ArePricingRounds, IsAnswer, has_none, values_of, value_of_round}
 use Rattle.duty_plan.specs.Trees.{HasRun, IsRight, IsLimits, EndsEmpty}
 use Rattle.duty_plan.proofs.Home.{least_home, replicate_at, length_replicated}
 use Rattle.duty_plan.proofs.OneNode.{closed_root, one_node_of, one_node}
@@ -56,15 +56,15 @@ lawful : (case : Case) → length case.week.orders ≡ 0 → IsLawfulPlan case (
 lawful case none = record {
   duties = length_replicated (length case.week.drivers) empty;
   lawful = λ k duty h. subst (λ (d : Duty). IsLawful case k d) (replicate_at (length case.week.drivers) k empty duty h).0
-      (record { front = record { office = tt; hours = refl }; home = refl });
+      (record { partial = record { office = tt; hours = refl }; home = refl });
   once = λ o l. absurd (omega arith);
   known = λ n o h. cc;
 }
 
 value : (case : Case) (pairs : Pairs) → length case.week.orders ≡ 0 → value_of_round case.week pairs (home_round_of case) ≡ 0
 value case pairs none =
-    let charges : total_below (charge case.week pairs no_prices) (length case.week.orders) ≡ 0 = rw none refl in
-    let whole : (pos (total_below (charge case.week pairs no_prices) (length case.week.orders)) +ℤ
+    let lagrangian_terms : total_below (lagrangian_term case.week pairs no_prices) (length case.week.orders) ≡ 0 = rw none refl in
+    let whole : (pos (total_below (lagrangian_term case.week pairs no_prices) (length case.week.orders)) +ℤ
     sum_of (values_of (replicate (length case.week.drivers) (Least (pos 0) empty)))) ≡ pos 0 =
     omega (arith, ints, sum-home (length case.week.drivers)) in
     ap or_zero whole
@@ -78,7 +78,7 @@ only-round x y zero h = (refl, cc)
 only-round x y (suc k) h = cc
 
 run : (case : Case) (limits : Limits) (m : ℕ) → IsLimits limits → length case.week.orders ≡ 0 →
-    IsRun m case limits.rounds home_pairs 0 0 0 no_prices no_prices (home_round_of case ∷ [])
+    ArePricingRounds m case limits.rounds home_pairs 0 0 0 no_prices no_prices (home_round_of case ∷ [])
 run case limits m l none = record {
   some = (omega arith, l.rounds.0);
   begins = λ round h. sym (ap (λ (x : Round). x.prices) (only-round _ round 0 h).1);

@@ -6,7 +6,7 @@ use Rattle.minute_line.specs.declared.lines.History.{History}
 use Rattle.hours_rules.specs.declared.clocks.Clock.{Clock}
 use Rattle.hours_rules.specs.declared.rules.Broken.{Broken}
 use Rattle.hours_rules.specs.Rules.{Past, fault}
-use Rattle.hours_rules.specs.Going.{Answers}
+use Rattle.hours_rules.specs.Going.{StandsOrBreaks}
 use Rattle.hours_rules.specs.Verdicts.{past_of}
 use Rattle.week_book.specs.declared.weeks.Driver.{Driver}
 use Rattle.week_book.specs.declared.weeks.Week.{Week}
@@ -15,12 +15,12 @@ use Rattle.minute_line.specs.Minutes.{Minutes}
 use Rattle.duty_plan.specs.declared.duties.Step.{Step}
 use Rattle.duty_plan.specs.declared.duties.Duty.{Duty}
 use Rattle.duty_plan.specs.declared.plans.Case.{Case}
-use Rattle.duty_plan.specs.declared.walks.Walk.{Walk}
+use Rattle.duty_plan.specs.declared.duty_checks.DutyCheck.{DutyCheck}
 use Rattle.duty_plan.specs.declared.faults.DutyFault.{DutyFault}
-use Rattle.duty_plan.specs.Fronts.{Front, place_after, line_after, KeepsOfficeThrough}
-use Rattle.duty_plan.specs.Duties.{front_of, past_at, past_or_none, open_off_at, open_or_none, capacity_at, capacity_or_none, fee_or_none, cents_after, cost_after, IsLawful}
+use Rattle.duty_plan.specs.PartialDuties.{PartialDuty, place_after, line_after, KeepsOfficeThrough}
+use Rattle.duty_plan.specs.Duties.{partial_of, past_at, past_or_none, open_off_at, open_or_none, capacity_at, capacity_or_none, fee_or_none, cents_after, cost_after, IsLawful}
 use Rattle.duty_plan.specs.Verdicts.{first_failed, tests_of_step, office_fault, verdict_after, duty_verdict}
-use Rattle.duty_plan.specs.Walks.{StandsFor, broken_of}
+use Rattle.duty_plan.specs.DutyChecks.{StandsFor, broken_of}
 use Rattle.duty_plan.proofs.Lists.{reverse-at, reverse-more}
 use Rattle.duty_plan.proofs.Keeping.{none-keeps, keeps-none, fault-step, fault-more}
 
@@ -41,22 +41,22 @@ verdict-cost None true None cost = refl
 -- a duty is lawful just where its verdict is a cost
 pub lawful-ok : (case : Case) (driver : ℕ) (duty : Duty) → IsOk (duty_verdict case driver duty) → IsLawful case driver duty
 lawful-ok case driver duty h =
-    let parts = verdict-ok (office_fault case.week (open_off_at case driver) (capacity_at case driver) (front_of duty)) (eqb (place_after (front_of duty)) 0)
-    (fault (past_at case driver) (line_after case.week (front_of duty))) (cost_after case driver (front_of duty)) h in record {
-      front = record {
-        office = keeps-none case.week (open_off_at case driver) (capacity_at case driver) (front_of duty) parts.0;
+    let parts = verdict-ok (office_fault case.week (open_off_at case driver) (capacity_at case driver) (partial_of duty)) (eqb (place_after (partial_of duty)) 0)
+    (fault (past_at case driver) (line_after case.week (partial_of duty))) (cost_after case driver (partial_of duty)) h in record {
+      partial = record {
+        office = keeps-none case.week (open_off_at case driver) (capacity_at case driver) (partial_of duty) parts.0;
         hours = parts.2;
       };
-      home = eqb-true (place_after (front_of duty)) 0 parts.1;
+      home = eqb-true (place_after (partial_of duty)) 0 parts.1;
     }
 
-pub ok-lawful : (case : Case) (driver : ℕ) (duty : Duty) → IsLawful case driver duty → duty_verdict case driver duty ≡ Ok (cost_after case driver (front_of duty))
+pub ok-lawful : (case : Case) (driver : ℕ) (duty : Duty) → IsLawful case driver duty → duty_verdict case driver duty ≡ Ok (cost_after case driver (partial_of duty))
 ok-lawful case driver duty l =
-    let office = none-keeps case.week (open_off_at case driver) (capacity_at case driver) (front_of duty) l.front.office in
-    let home = eq-eqb (place_after (front_of duty)) 0 l.home in
-    rw (office, home, l.front.hours) refl
+    let office = none-keeps case.week (open_off_at case driver) (capacity_at case driver) (partial_of duty) l.partial.office in
+    let home = eq-eqb (place_after (partial_of duty)) 0 l.home in
+    rw (office, home, l.partial.hours) refl
 
-pub cost-ok : (case : Case) (driver : ℕ) (duty : Duty) → IfOk (duty_verdict case driver duty) (λ cents. cents ≡ cost_after case driver (front_of duty))
+pub cost-ok : (case : Case) (driver : ℕ) (duty : Duty) → IfOk (duty_verdict case driver duty) (λ cents. cents ≡ cost_after case driver (partial_of duty))
 cost-ok case driver duty = verdict-cost _ _ _ _
 
 -- the fault of the first step that fails a test
@@ -70,7 +70,7 @@ early-fault case driver lorry history duty steps i step d found a b same k f l e
     fault-step case.week history.open_off lorry.capacity step (reverse (take i steps)) found k f in
     let more : office_fault case.week history.open_off lorry.capacity (reverse (drop (suc i) steps) ++ (step ∷ reverse (take i steps))) ≡ Some found =
     fault-more case.week history.open_off lorry.capacity (reverse (drop (suc i) steps)) (step ∷ reverse (take i steps)) found here in
-    let whole : office_fault case.week history.open_off lorry.capacity (front_of duty) ≡ Some found =
+    let whole : office_fault case.week history.open_off lorry.capacity (partial_of duty) ≡ Some found =
     ap (λ (x : List Step). office_fault case.week history.open_off lorry.capacity (reverse x)) (sym same)
     ∙ (ap (office_fault case.week history.open_off lorry.capacity) (reverse-at steps i step d l e) ∙ more) in
     let open_off : open_off_at case driver ≡ history.open_off = ap open_or_none b in
@@ -78,43 +78,43 @@ early-fault case driver lorry history duty steps i step d found a b same k f l e
     rw (open_off, capacity, whole) refl
 
 -- one step more
-pub stands-more : (week : Week) (lorry : Driver) (history : History) (walk : Walk) (steps : List Step) (i : ℕ) (step d : Step) →
-    StandsFor week lorry history (step ∷ reverse (take i steps)) walk → i < length steps → step ≡ get_or steps i d →
-    StandsFor week lorry history (reverse (take (i + 1) steps)) walk
-stands-more week lorry history walk steps i step d s l e = rw (reverse-more steps i step d l e) s
+pub stands-more : (week : Week) (lorry : Driver) (history : History) (check : DutyCheck) (steps : List Step) (i : ℕ) (step d : Step) →
+    StandsFor week lorry history (step ∷ reverse (take i steps)) check → i < length steps → step ≡ get_or steps i d →
+    StandsFor week lorry history (reverse (take (i + 1) steps)) check
+stands-more week lorry history check steps i step d s l e = rw (reverse-more steps i step d l e) s
 
-cost-front : (case : Case) (driver : ℕ) (lorry : Driver) (front : Front) (n cents : ℕ) → driver_of case.week driver ≡ Some lorry → n ≡ length front →
-    cents ≡ cents_after case.week front → cond (eqb n 0) 0 (lorry.fee + cents) ≡ cost_after case driver front
-cost-front case driver lorry [] n cents a e c = rw e refl
-cost-front case driver lorry (step ∷ before) n cents a e c =
+cost-partial : (case : Case) (driver : ℕ) (lorry : Driver) (partial : PartialDuty) (n cents : ℕ) → driver_of case.week driver ≡ Some lorry → n ≡ length partial →
+    cents ≡ cents_after case.week partial → cond (eqb n 0) 0 (lorry.fee + cents) ≡ cost_after case driver partial
+cost-partial case driver lorry [] n cents a e c = rw e refl
+cost-partial case driver lorry (step ∷ before) n cents a e c =
     let fee : fee_or_none (driver_of case.week driver) ≡ lorry.fee = ap fee_or_none a in
     let some : eqb (suc (length before)) 0 ≡ false = grind (arith, nat_tests) in
     rw (e, fee, c, some) refl
 
-broken-front : (past : Past) (week : Minutes) (hours : Result Clock Broken) → Answers 0 past week hours → broken_of hours ≡ fault past week
-broken-front past week (Ok clock) h = sym h.1
-broken-front past week (Err broken) h = sym h
+broken-partial : (past : Past) (week : Minutes) (hours : Result Clock Broken) → StandsOrBreaks 0 past week hours → broken_of hours ≡ fault past week
+broken-partial past week (Ok clock) h = sym h.1
+broken-partial past week (Err broken) h = sym h
 
 -- the verdict of a walk that stands for the whole duty
-pub whole-duty : (case : Case) (driver : ℕ) (lorry : Driver) (history : History) (duty : Duty) (walk : Walk) → driver_of case.week driver ≡ Some lorry →
-    slice_get case.past driver ≡ Some history → StandsFor case.week lorry history (front_of duty) walk →
-    verdict_after None (eqb walk.position.place 0) (broken_of walk.hours) (cond (eqb walk.steps 0) 0 (lorry.fee + walk.cents)) ≡ duty_verdict case driver duty
-whole-duty case driver lorry history duty walk a b s =
+pub whole-duty : (case : Case) (driver : ℕ) (lorry : Driver) (history : History) (duty : Duty) (check : DutyCheck) → driver_of case.week driver ≡ Some lorry →
+    slice_get case.past driver ≡ Some history → StandsFor case.week lorry history (partial_of duty) check →
+    verdict_after None (eqb check.position.place 0) (broken_of check.hours) (cond (eqb check.steps 0) 0 (lorry.fee + check.cents)) ≡ duty_verdict case driver duty
+whole-duty case driver lorry history duty check a b s =
     let open_off : open_off_at case driver ≡ history.open_off = ap open_or_none b in
     let capacity : capacity_at case driver ≡ lorry.capacity = ap capacity_or_none a in
-    let office : office_fault case.week history.open_off lorry.capacity (front_of duty) ≡ None =
-    none-keeps case.week history.open_off lorry.capacity (front_of duty) s.office in
+    let office : office_fault case.week history.open_off lorry.capacity (partial_of duty) ≡ None =
+    none-keeps case.week history.open_off lorry.capacity (partial_of duty) s.office in
     let past : past_at case driver ≡ past_of history = ap past_or_none b in
-    let hours : broken_of walk.hours ≡ fault (past_of history) (line_after case.week (front_of duty)) =
-    broken-front (past_of history) (line_after case.week (front_of duty)) walk.hours s.hours in
-    let cost = cost-front case driver lorry (front_of duty) walk.steps walk.cents a s.steps s.cents in
+    let hours : broken_of check.hours ≡ fault (past_of history) (line_after case.week (partial_of duty)) =
+    broken-partial (past_of history) (line_after case.week (partial_of duty)) check.hours s.hours in
+    let cost = cost-partial case driver lorry (partial_of duty) check.steps check.cents a s.steps s.cents in
     rw (open_off, capacity, office, past, s.position.place, hours, cost) refl
 
 -- what a verdict says in the words of the subject
 pub record Says (case : Case) (driver : ℕ) (duty : Duty) (answer : Result ℕ DutyFault) : Type 0 where
   pub verdict : answer ≡ duty_verdict case driver duty
   pub lawful : IsOk answer ↔ IsLawful case driver duty
-  pub cost : IfOk answer (λ cents. cents ≡ cost_after case driver (front_of duty))
+  pub cost : IfOk answer (λ cents. cents ≡ cost_after case driver (partial_of duty))
 
 pub verdict-clauses : (case : Case) (driver : ℕ) (duty : Duty) (answer : Result ℕ DutyFault) → answer ≡ duty_verdict case driver duty → Says case driver duty answer
 verdict-clauses case driver duty answer e = record {

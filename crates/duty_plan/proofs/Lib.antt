@@ -10,6 +10,7 @@ pub mod Sums
 pub mod Least
 pub mod Carrying
 pub mod Answering
+pub mod PlanVerdicts
 pub mod Places
 pub mod Bits
 pub mod LabelLists
@@ -20,3 +21,14 @@ pub mod HomePlan
 pub mod OneDriver
 pub mod Trips
 pub mod LeastTrips
+pub mod Hopes
+pub mod Twins
+pub mod Reaching
+pub mod SmallValues
+pub mod TwinLists
+pub mod EmptyLabels
+pub mod Drawing
+pub mod Filling
+pub mod SharedRounds
+pub mod Workers
+pub mod JoinedRounds

@@ -12,7 +12,7 @@ use Rattle.duty_plan.specs.declared.duties.Step.{Step}
 use Rattle.duty_plan.specs.declared.faults.DutyFault.{DutyFault}
 use Rattle.duty_plan.specs.declared.positions.Position.{Position}
 use Rattle.duty_plan.specs.Acts.{minutes_of, cents_of_act, can_be_done, place_by, used_by, loaded_by}
-use Rattle.duty_plan.specs.Fronts.{Front, place_after, at_after, on_road, KeepsOffice}
+use Rattle.duty_plan.specs.PartialDuties.{PartialDuty, place_after, at_after, follows_road, KeepsOffice}
 use Rattle.duty_plan.specs.Duties.{night_of}
 use Rattle.duty_plan.specs.Labels.{bit_of_act}
 use Rattle.duty_plan.specs.Positions.{IsPositionOf, IsPositionOfSome}
@@ -24,7 +24,7 @@ use Rattle.duty_plan.proofs.WeekLimits.{at-step, light}
 pub light-position : (week : Week) (lorry : Driver) (open_off : ℕ) (position : Position) → IsDriver lorry →
     IsPositionOfSome week open_off lorry.capacity position → position.used ≤ 100000
 light-position week lorry open_off position d s =
-    omega (arith, s.position_of.used, light week open_off lorry.capacity s.front s.office, d.capacity.1)
+    omega (arith, s.position_of.used, light week open_off lorry.capacity s.partial s.office, d.capacity.1)
 
 -- no fault has no number
 unnumbered : (number : ℕ) (found : Option DutyFault) → option_map (numbered number) found ≡ None → found ≡ None
@@ -32,7 +32,7 @@ unnumbered number None h = refl
 unnumbered number (Some fault) h = cc
 
 -- where a step's act ends
-pub ends : (week : Week) (before : Front) (position : Position) (step : Step) (end minutes : ℕ) → IsPositionOf week before position →
+pub ends : (week : Week) (before : PartialDuty) (position : Position) (step : Step) (end minutes : ℕ) → IsPositionOf week before position →
     minutes ≡ minutes_of week position.place step.act → end ≡ position.at + step.stay.ready + step.stay.off + minutes →
     end ≡ at_after week (step ∷ before)
 ends week before position step end minutes s m e =
@@ -40,19 +40,19 @@ ends week before position step end minutes s m e =
     omega (arith, e, s.at, long, at-step week step before)
 
 -- a step at which no test failed keeps the office rules
-pub kept : (week : Week) (open_off capacity number : ℕ) (before : Front) (position : Position) (step : Step) (found : Option DutyFault) (end minutes : ℕ) →
+pub kept : (week : Week) (open_off capacity number : ℕ) (before : PartialDuty) (position : Position) (step : Step) (found : Option DutyFault) (end minutes : ℕ) →
     IsPositionOf week before position → true ≡ can_be_done week position.place step.act → minutes ≡ minutes_of week position.place step.act →
     end ≡ position.at + step.stay.ready + step.stay.off + minutes →
-    (on_road week step before ≡ true → end ≡ at_after week (step ∷ before) →
+    (follows_road week step before ≡ true → end ≡ at_after week (step ∷ before) →
     found ≡ option_map (numbered number) (first_failed (tests_of_step week open_off capacity step before))) → found ≡ None →
     KeepsOffice week open_off capacity step before
 kept week open_off capacity number before position step found end minutes s r m b h e =
-    let road : on_road week step before ≡ true = rw s.place at (sym r) in
+    let road : follows_road week step before ≡ true = rw s.place at (sym r) in
     keeps-passed week open_off capacity step before
     (unnumbered number _ (sym (h road (ends week before position step end minutes s m b)) ∙ e))
 
 -- the position after a step
-pub position-step : (week : Week) (before : Front) (position next : Position) (step : Step) (minutes : ℕ) → IsPositionOf week before position →
+pub position-step : (week : Week) (before : PartialDuty) (position next : Position) (step : Step) (minutes : ℕ) → IsPositionOf week before position →
     minutes ≡ minutes_of week position.place step.act → next.at ≡ position.at + step.stay.ready + step.stay.off + minutes →
     next.place ≡ place_by step.act position.place → next.used ≡ used_by week step.act position.used →
     next.loaded ≡ loaded_by step.act position.loaded → next.begun ≡ true → next.served ≡ bit_or position.served (bit_of_act step.act) →
@@ -72,7 +72,7 @@ night-small true night n h e = omega arith
 night-small false night n h e = omega arith
 
 -- what a step costs
-pub taken-cents : (week : Week) (before : Front) (position : Position) (step : Step) (night cents : ℕ) → IsPositionOf week before position →
+pub taken-cents : (week : Week) (before : PartialDuty) (position : Position) (step : Step) (night cents : ℕ) → IsPositionOf week before position →
     night ≡ cond (is_daily step.stay.kind && not (eqb position.place 0)) week.night 0 → cents ≡ cents_of_act week position.place step.act →
     night + cents ≡ night_of week step before + cents_of_act week (place_after before) step.act
 taken-cents week before position step night cents s n c =

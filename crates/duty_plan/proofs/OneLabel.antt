@@ -1,4 +1,4 @@
--- A front has one label.
+-- A partial duty has one label.
 use Rattle.std.proofs.Common.{◌≡◌, ℕ, sym, ◌∙◌}
 use Rattle.minute_line.specs.Minutes.{Minutes}
 use Rattle.hours_rules.specs.declared.clocks.Clock.{Clock}
@@ -8,7 +8,7 @@ use Rattle.hours_rules.proofs.Same.{clock_ext}
 use Rattle.duty_plan.specs.declared.plans.Case.{Case}
 use Rattle.duty_plan.specs.declared.pricing.Prices.{Prices}
 use Rattle.duty_plan.specs.declared.labels.Label.{Label}
-use Rattle.duty_plan.specs.Fronts.{Front}
+use Rattle.duty_plan.specs.PartialDuties.{PartialDuty}
 use Rattle.duty_plan.specs.Labels.{IsLabelOf}
 
 -- one clock stands for a line
@@ -32,6 +32,8 @@ one_clock x y past week s t = clock_ext x y (record {
   work_week = s.work_week ∙ sym t.work_week;
   prev_drive = s.prev_drive ∙ sym t.prev_drive;
   work_before = s.work_before ∙ sym t.work_before;
+  owed = s.owed ∙ sym t.owed;
+  due = s.due ∙ sym t.due;
 })
 
 -- labels with equal fields are equal
@@ -47,9 +49,9 @@ label_ext a b clock place served used loaded fee_paid value = λ i. record {
   value = value i;
 }
 
--- each field is fixed by the front
-pub one_label : (case : Case) (driver : ℕ) (prices : Prices) (a b : Label) (front : Front) →
-    IsLabelOf case driver prices a front → IsLabelOf case driver prices b front → a ≡ b
-one_label case driver prices a b front s t =
+-- each field is fixed by the partial duty
+pub one_label : (case : Case) (driver : ℕ) (prices : Prices) (a b : Label) (partial : PartialDuty) →
+    IsLabelOf case driver prices a partial → IsLabelOf case driver prices b partial → a ≡ b
+one_label case driver prices a b partial s t =
     label_ext a b (one_clock a.clock b.clock _ _ s.clock t.clock) (s.place ∙ sym t.place) (s.served ∙ sym t.served) (s.used ∙ sym t.used)
     (s.loaded ∙ sym t.loaded) (s.fee_paid ∙ sym t.fee_paid) (s.value ∙ sym t.value)

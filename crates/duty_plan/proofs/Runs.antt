@@ -17,7 +17,7 @@ use Rattle.hours_rules.specs.Counts.{open_run}
 use Rattle.hours_rules.specs.Rules.{Past, whole}
 use Rattle.hours_rules.specs.Standing.{Stands, IsClock}
 use Rattle.hours_rules.specs.Verdicts.{past_of}
-use Rattle.hours_rules.proofs.Histories.{is_history}
+use Rattle.hours_rules.proofs.Histories.{is_history, carried}
 use Rattle.hours_rules.proofs.Starts.{length-past_of}
 use Rattle.week_book.specs.declared.weeks.Week.{Week}
 use Rattle.week_book.specs.Weeks.{IsWeek}
@@ -25,7 +25,7 @@ use Rattle.duty_plan.specs.declared.duties.Act.{Act}
 use Rattle.duty_plan.specs.declared.duties.Act.TheVariants.{Leg, Serve, Load}
 use Rattle.duty_plan.specs.declared.duties.Step.{Step}
 use Rattle.duty_plan.specs.Acts.{mark_of, minutes_of}
-use Rattle.duty_plan.specs.Fronts.{Front, line_after, place_after, stays_well, has_lengths, is_length, KeepsOfficeThrough}
+use Rattle.duty_plan.specs.PartialDuties.{PartialDuty, line_after, place_after, has_lawful_length, has_lengths, is_length, KeepsOfficeThrough}
 use Rattle.duty_plan.proofs.WeekLimits.{small-act, early}
 
 pub both : (a b : Bool) → (a && b) ≡ true → (a ≡ true) × (b ≡ true)
@@ -78,15 +78,15 @@ open_run-whole : (n : ℕ) (mark : Mark) (kind : Kind) (week : Minutes) (past : 
 open_run-whole zero mark kind week past d l = absurd (omega arith)
 open_run-whole (suc n) mark kind week past d l = rw d refl
 
--- the run that is open where a front ends
-abbrev pub open_at : ℕ → Front → ℕ
+-- the run that is open where a partial duty ends
+abbrev pub open_at : ℕ → PartialDuty → ℕ
 open_at open_off [] = open_off
 open_at open_off (step ∷ before) = 0
 
-pub open_run-front : (week : Week) (h : History) (capacity : ℕ) (front : Front) → IsWeek week → KeepsOfficeThrough week h.open_off capacity front →
-    open_run (whole (past_of h) (line_after week front)) ≡ open_at h.open_off front
-open_run-front week h capacity [] w k = open_run-history h
-open_run-front week h capacity (step ∷ before) w k =
+pub open_run-partial : (week : Week) (h : History) (capacity : ℕ) (partial : PartialDuty) → IsWeek week → KeepsOfficeThrough week h.open_off capacity partial →
+    open_run (whole (past_of h) (line_after week partial)) ≡ open_at h.open_off partial
+open_run-partial week h capacity [] w k = open_run-history h
+open_run-partial week h capacity (step ∷ before) w k =
     open_run-whole (minutes_of week (place_after before) step.act) (mark_of step.act) step.stay.kind _ (past_of h) (duty-act step.act)
     (small-act week (place_after before) step.act w k.0.road).some
 
@@ -104,25 +104,26 @@ lengths-run open_off stay Weekly false k e h r =
     let well : is_length Weekly stay.off ≡ true = rw k at h in omega (arith, leb-true 1 stay.off well)
 
 -- no Ready minute goes into the open run
-pub waits-none : (open_off : ℕ) (step : Step) (before : Front) → stays_well open_off step before ≡ true → 0 < open_at open_off before → step.stay.ready ≡ 0
+pub waits-none : (open_off : ℕ) (step : Step) (before : PartialDuty) → has_lawful_length open_off step before ≡ true → 0 < open_at open_off before → step.stay.ready ≡ 0
 waits-none open_off step [] h l = lengths-ready open_off step.stay (ltb 0 open_off) refl h l
 waits-none open_off step (s ∷ before) h l = absurd (omega arith)
 
 -- a rest has an off run
-pub rests-some : (open_off : ℕ) (step : Step) (before : Front) → stays_well open_off step before ≡ true → is_rest step.stay.kind ≡ true →
+pub rests-some : (open_off : ℕ) (step : Step) (before : PartialDuty) → has_lawful_length open_off step before ≡ true → is_rest step.stay.kind ≡ true →
     0 < open_at open_off before + step.stay.off
 rests-some open_off step [] h r = lengths-run open_off step.stay step.stay.kind (ltb 0 open_off) refl refl h r
 rests-some open_off step (s ∷ before) h r = lengths-run 0 step.stay step.stay.kind false refl refl h r
 
--- the clock of a front that keeps the office rules stands for a line
-pub is-clock : (week : Week) (h : History) (open_off capacity : ℕ) (front : Front) (clock : Clock) → KeepsOfficeThrough week open_off capacity front →
-    Stands clock (past_of h) (line_after week front) → IsClock clock
-is-clock week h open_off capacity front clock k s = record {
+-- the clock of a partial duty that keeps the office rules stands for a line
+pub is-clock : (week : Week) (h : History) (open_off capacity : ℕ) (partial : PartialDuty) (clock : Clock) → KeepsOfficeThrough week open_off capacity partial →
+    Stands clock (past_of h) (line_after week partial) → IsClock clock
+is-clock week h open_off capacity partial clock k s = record {
   past = past_of h;
-  week = line_after week front;
+  week = line_after week partial;
   stands = s;
   past_minutes = length-past_of h (is_history h);
-  week_minutes = early week open_off capacity front k;
+  week_minutes = early week open_off capacity partial k;
   prev_drive = h.drive;
   work_before = (is_history h).work16;
+  debt = carried h;
 }

@@ -12,33 +12,25 @@ use Rattle.hours_rules.specs.declared.clocks.Stay.{Stay}
 use Rattle.hours_rules.specs.declared.rules.Broken.{Broken}
 use Rattle.hours_rules.specs.Rules.{Past, fault_from}
 use Rattle.hours_rules.specs.Standing.{Stands, IsClock}
-use Rattle.hours_rules.specs.Bounds.{IsWithin}
-use Rattle.hours_rules.specs.Going.{Answers, with_stay}
+use Rattle.hours_rules.specs.Going.{StandsOrBreaks, with_stay}
 use Rattle.hours_rules.specs.Verdicts.{past_of}
 use Rattle.hours_rules.proofs.Faults.{fault_stays}
-use Rattle.hours_rules.proofs.Sizes.{within-stands}
 use Rattle.week_book.specs.declared.weeks.Driver.{Driver}
 use Rattle.week_book.specs.declared.weeks.Week.{Week}
 use Rattle.week_book.specs.Weeks.{IsWeek}
 use Rattle.duty_plan.specs.declared.duties.Step.{Step}
-use Rattle.duty_plan.specs.declared.positions.Taken.{Taken}
-use Rattle.duty_plan.specs.declared.walks.Walk.{Walk}
+use Rattle.duty_plan.specs.declared.positions.StepEffect.{StepEffect}
+use Rattle.duty_plan.specs.declared.duty_checks.DutyCheck.{DutyCheck}
 use Rattle.duty_plan.specs.Acts.{minutes_of, mark_of}
-use Rattle.duty_plan.specs.Fronts.{Front, place_after, at_after, line_after, KeepsOffice, KeepsOfficeThrough}
+use Rattle.duty_plan.specs.PartialDuties.{PartialDuty, place_after, at_after, line_after, KeepsOffice, KeepsOfficeThrough}
 use Rattle.duty_plan.specs.declared.faults.DutyFault.{DutyFault}
 use Rattle.duty_plan.specs.Duties.{night_of}
 use Rattle.duty_plan.specs.Positions.{IsPositionOf, IsTaken}
 use Rattle.duty_plan.specs.Verdicts.{Test, first_failed, numbered, tests_of_step}
-use Rattle.duty_plan.specs.Walks.{StandsFor, StandsForSome}
+use Rattle.duty_plan.specs.DutyChecks.{StandsFor, StandsForSome}
 use Rattle.duty_plan.proofs.OfficeSteps.{night-small}
 use Rattle.duty_plan.proofs.WeekLimits.{small-act, at-step}
-use Rattle.duty_plan.proofs.Runs.{open_at, open_run-front, waits-none, rests-some, is-clock}
-
--- a clock's numbers are small
-pub within-clock : (clock : Clock) → IsClock clock → IsWithin 60000 clock
-within-clock clock c =
-    within-stands 60000 clock c.past c.week c.stands (omega (arith, c.past_minutes, c.week_minutes))
-    (omega (arith, c.prev_drive)) (omega (arith, c.work_before))
+use Rattle.duty_plan.proofs.Runs.{open_at, open_run-partial, waits-none, rests-some, is-clock}
 
 -- a fault stays the first one
 pub fault_stays-step : (past : Past) (broken : Broken) (stay : Stay) (mark : Mark) (n : ℕ) (week : Minutes) →
@@ -48,7 +40,7 @@ fault_stays-step past broken stay mark n week h =
     (fault_stays 0 past broken stay.off Off Plain _ (fault_stays 0 past broken stay.ready Ready Plain week h))
 
 -- a step takes a minute, and costs at most so much
-pub record IsSmallStep (taken : Taken) : Type 0 where
+pub record IsSmallStep (taken : StepEffect) : Type 0 where
   pub some : 1 ≤ taken.minutes
   pub cheap : taken.cents ≤ 2000000
 
@@ -60,12 +52,12 @@ pub record GoesOn (clock : Clock) (stay : Stay) (minutes : ℕ) : Type 0 where
   pub ready : 0 < clock.off → stay.ready ≡ 0
   pub run : is_rest stay.kind ≡ true → 0 < clock.off + stay.off
 
-pub goes-on : (week : Week) (capacity : ℕ) (history : History) (before : Front) (step : Step) (minutes : ℕ) (clock : Clock) → IsWeek week →
+pub goes-on : (week : Week) (capacity : ℕ) (history : History) (before : PartialDuty) (step : Step) (minutes : ℕ) (clock : Clock) → IsWeek week →
     KeepsOfficeThrough week history.open_off capacity before → KeepsOffice week history.open_off capacity step before →
     minutes ≡ minutes_of week (place_after before) step.act → Stands clock (past_of history) (line_after week before) →
     GoesOn clock step.stay minutes
 goes-on week capacity history before step minutes clock w o k m s =
-    let off : clock.off ≡ open_at history.open_off before = s.off ∙ open_run-front week history capacity before w o in record {
+    let off : clock.off ≡ open_at history.open_off before = s.off ∙ open_run-partial week history capacity before w o in record {
       clock_stands = is-clock week history history.open_off capacity before clock o s;
       some = omega (arith, m, (small-act week (place_after before) step.act w k.road).some);
       end = omega (arith, m, s.at, at-step week step before, leb-true (at_after week (step ∷ before)) 10080 k.late);
@@ -74,7 +66,7 @@ goes-on week capacity history before step minutes clock w o k m s =
     }
 
 -- what a step that was taken comes to is small
-pub small-taken : (week : Week) (open_off capacity : ℕ) (before : Front) (step : Step) (taken : Taken) → IsWeek week →
+pub small-taken : (week : Week) (open_off capacity : ℕ) (before : PartialDuty) (step : Step) (taken : StepEffect) → IsWeek week →
     IsTaken week open_off capacity before step taken → IsSmallStep taken
 small-taken week open_off capacity before step taken w t =
     let act = small-act week (place_after before) step.act w t.office.road in record {
@@ -83,23 +75,23 @@ small-taken week open_off capacity before step taken w t =
     }
 
 -- a walk's clock, where it has one, may go on through a step that was taken
-pub goes-walk : (week : Week) (driver : Driver) (history : History) (step : Step) (walk : Walk) (taken : Taken) (clock : Clock) → IsWeek week →
-    StandsForSome week driver history walk →
-    ((before : Front) → KeepsOfficeThrough week history.open_off driver.capacity before → IsPositionOf week before walk.position →
-    IsTaken week history.open_off driver.capacity before step taken) → walk.hours ≡ Ok clock → GoesOn clock step.stay taken.minutes
-goes-walk week driver history step walk taken clock w h takes hours =
-    let good = takes h.front h.stands.office h.stands.position in
-    let stands : Stands clock (past_of history) (line_after week h.front) × (fault_from 0 (past_of history) (line_after week h.front) ≡ None) =
+pub goes-check : (week : Week) (driver : Driver) (history : History) (step : Step) (check : DutyCheck) (taken : StepEffect) (clock : Clock) → IsWeek week →
+    StandsForSome week driver history check →
+    ((before : PartialDuty) → KeepsOfficeThrough week history.open_off driver.capacity before → IsPositionOf week before check.position →
+    IsTaken week history.open_off driver.capacity before step taken) → check.hours ≡ Ok clock → GoesOn clock step.stay taken.minutes
+goes-check week driver history step check taken clock w h takes hours =
+    let good = takes h.partial h.stands.office h.stands.position in
+    let stands : Stands clock (past_of history) (line_after week h.partial) × (fault_from 0 (past_of history) (line_after week h.partial) ≡ None) =
     rw hours at h.stands.hours in
-    goes-on week driver.capacity history h.front step taken.minutes clock w h.stands.office good.office good.minutes stands.0
+    goes-on week driver.capacity history h.partial step taken.minutes clock w h.stands.office good.office good.minutes stands.0
 
--- the walk after a step stands for the front with the step
-pub stands-step : (week : Week) (driver : Driver) (history : History) (before : Front) (walk next : Walk) (step : Step) (taken : Taken) →
-    StandsFor week driver history before walk → IsTaken week history.open_off driver.capacity before step taken →
-    next.steps ≡ walk.steps + 1 → next.position ≡ taken.position → next.cents ≡ taken.cents + walk.cents →
-    Answers 0 (past_of history) (with_stay step.stay (mark_of step.act) taken.minutes (line_after week before)) next.hours →
+-- the walk after a step stands for the partial duty with the step
+pub stands-step : (week : Week) (driver : Driver) (history : History) (before : PartialDuty) (check next : DutyCheck) (step : Step) (taken : StepEffect) →
+    StandsFor week driver history before check → IsTaken week history.open_off driver.capacity before step taken →
+    next.steps ≡ check.steps + 1 → next.position ≡ taken.position → next.cents ≡ taken.cents + check.cents →
+    StandsOrBreaks 0 (past_of history) (with_stay step.stay (mark_of step.act) taken.minutes (line_after week before)) next.hours →
     StandsFor week driver history (step ∷ before) next
-stands-step week driver history before walk next step taken s t steps position cents hours = record {
+stands-step week driver history before check next step taken s t steps position cents hours = record {
   office = (t.office, s.office);
   steps = omega (arith, steps, s.steps);
   position = rw position t.position;
@@ -108,7 +100,7 @@ stands-step week driver history before walk next step taken s t steps position c
 }
 
 -- an office fault of a step, told of the number that it has
-pub fault-numbered : (week : Week) (open_off capacity : ℕ) (step : Step) (before : Front) (fault : DutyFault) →
+pub fault-numbered : (week : Week) (open_off capacity : ℕ) (step : Step) (before : PartialDuty) (fault : DutyFault) →
     option_map (numbered (length before)) (first_failed (tests_of_step week open_off capacity step before)) ≡ Some fault →
     first_failed (tests_of_step week open_off capacity step before) ≡ Some fault
 fault-numbered week open_off capacity step before fault h =

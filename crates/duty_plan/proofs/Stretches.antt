@@ -1,4 +1,4 @@
--- The stints of a front are a line, and have its minutes.
+-- The stints of a partial duty are a line, and have its minutes.
 use Rattle.std.proofs.Common.{◌≡◌, ℕ, zero, suc, ◌+◌, ◌≤◌, Bool, true, false, ◌&&◌, ◌||◌, ltb, List, [], ◌∷◌, ◌++◌, length, fold, refl, ap, ◌∙◌, arith, append_assoc, Option, Some, None, is_some, reverse, take, get_or, ◌<◌}
 use Rattle.std.proofs.lemmas.Bool.{le-leb, eqb-true}
 use Rattle.std.proofs.lemmas.List.{append-nil}
@@ -20,7 +20,7 @@ use Rattle.duty_plan.specs.declared.duties.Act.{Act}
 use Rattle.duty_plan.specs.declared.duties.Act.TheVariants.{Leg, Serve, Load}
 use Rattle.duty_plan.specs.declared.duties.Step.{Step}
 use Rattle.duty_plan.specs.Acts.{can_be_done, is_at, mark_of, minutes_of, place_by, minutes_of_road, minutes_of_order}
-use Rattle.duty_plan.specs.Fronts.{Front, place_after, line_after, has_lengths, is_length, stays_well, KeepsOfficeThrough}
+use Rattle.duty_plan.specs.PartialDuties.{PartialDuty, place_after, line_after, has_lengths, is_length, has_lawful_length, KeepsOfficeThrough}
 use Rattle.duty_plan.specs.Stints.{ready_stints, off_stints, stay_stints, stints_of, HasLine, is_known}
 use Rattle.duty_plan.proofs.Lists.{reverse-more}
 use Rattle.duty_plan.proofs.WeekLimits.{all-find, all-slice_get}
@@ -93,18 +93,18 @@ line-first false stay rest e h = line-follows (stay_stints stay ++ rest) (follow
 line-first true stay rest e h =
     let none : stay.ready ≡ 0 = eqb-true stay.ready 0 (both _ _ e).0 in rw none (line-open stay.off stay.kind rest h)
 
--- what may come after a front
-abbrev GoesAfter : Front → List Stint → Type 0
+-- what may come after a partial duty
+abbrev GoesAfter : PartialDuty → List Stint → Type 0
 GoesAfter [] rest = is_line rest ≡ true
 GoesAfter (step ∷ before) rest = each_follows false rest ≡ true
 
-goes-step : (open_off : ℕ) (step : Step) (before : Front) (rest : List Stint) → stays_well open_off step before ≡ true →
+goes-step : (open_off : ℕ) (step : Step) (before : PartialDuty) (rest : List Stint) → has_lawful_length open_off step before ≡ true →
     ((after : Bool) → each_follows after rest ≡ true) → GoesAfter before (stay_stints step.stay ++ rest)
 goes-step open_off step [] rest e h = line-first (ltb 0 open_off) step.stay rest e h
 goes-step open_off step (s ∷ before) rest e h = follows-stay step.stay.ready step.stay.off step.stay.kind rest e h
 
-line-more : (week : Week) (open_off : ℕ) (front : Front) (rest : List Stint) → IsWeek week → HasLine week open_off front → GoesAfter front rest →
-    is_line (stints_of week front ++ rest) ≡ true
+line-more : (week : Week) (open_off : ℕ) (partial : PartialDuty) (rest : List Stint) → IsWeek week → HasLine week open_off partial → GoesAfter partial rest →
+    is_line (stints_of week partial ++ rest) ≡ true
 line-more week open_off [] rest w g h = h
 line-more week open_off (step ∷ before) rest w g h =
     let act : Stint = on_duty (mark_of step.act) (minutes_of week (place_after before) step.act) in
@@ -118,9 +118,9 @@ line-more week open_off (step ∷ before) rest w g h =
     ∙ ap (λ (x : List Stint). stints_of week before ++ x) (append_assoc (stay_stints step.stay) (act ∷ []) rest) in
     ap is_line joined ∙ next
 
-pub line-front : (week : Week) (open_off : ℕ) (front : Front) → IsWeek week → HasLine week open_off front → is_line (stints_of week front) ≡ true
-line-front week open_off [] w g = refl
-line-front week open_off (step ∷ before) w g =
+pub line-partial : (week : Week) (open_off : ℕ) (partial : PartialDuty) → IsWeek week → HasLine week open_off partial → is_line (stints_of week partial) ≡ true
+line-partial week open_off [] w g = refl
+line-partial week open_off (step ∷ before) w g =
     rw (← append-nil (stints_of week (step ∷ before))) (line-more week open_off (step ∷ before) [] w g refl)
 
 -- one step more, as a loop goes
@@ -137,7 +137,7 @@ pub place-more : (steps : List Step) (i : ℕ) (step d : Step) (place next : ℕ
     i < length steps → step ≡ get_or steps i d → next ≡ place_after (reverse (take (i + 1) steps))
 place-more steps i step d place next e p l g = rw (reverse-more steps i step d l g) (e ∙ ap (place_by step.act) p)
 
--- ---- they have the front's minutes
+-- ---- they have the partial duty's minutes
 
 after_ready : (n : ℕ) (r : Reached) → r.declared ≡ Plain →
     fold add_stint r (ready_stints n) ≡ record { minutes = stretch n Ready Plain r.minutes; declared = Plain }
@@ -159,15 +159,15 @@ after_act (Leg to) n r = refl
 after_act (Serve order) n r = refl
 after_act Load n r = refl
 
-pub reached-front : (week : Week) (front : Front) → reached_by (stints_of week front) ≡ record { minutes = line_after week front; declared = Plain }
-reached-front week [] = refl
-reached-front week (step ∷ before) =
+pub reached-partial : (week : Week) (partial : PartialDuty) → reached_by (stints_of week partial) ≡ record { minutes = line_after week partial; declared = Plain }
+reached-partial week [] = refl
+reached-partial week (step ∷ before) =
     let n : ℕ = minutes_of week (place_after before) step.act in
     let act : Stint = on_duty (mark_of step.act) n in
     let start : Reached = record { minutes = line_after week before; declared = Plain } in
     let waited : Reached = record { minutes = stretch step.stay.ready Ready Plain start.minutes; declared = Plain } in
     fold-append add_stint nothing (stints_of week before) (stay_stints step.stay ++ act ∷ [])
-    ∙ (ap (λ (r : Reached). fold add_stint r (stay_stints step.stay ++ act ∷ [])) (reached-front week before)
+    ∙ (ap (λ (r : Reached). fold add_stint r (stay_stints step.stay ++ act ∷ [])) (reached-partial week before)
     ∙ (fold-append add_stint start (stay_stints step.stay) (act ∷ [])
     ∙ (ap (λ (r : Reached). add_stint r act) (fold-append add_stint start (ready_stints step.stay.ready) (off_stints step.stay.off step.stay.kind)
     ∙ (ap (λ (r : Reached). fold add_stint r (off_stints step.stay.off step.stay.kind)) (after_ready step.stay.ready start refl)
@@ -185,7 +185,7 @@ known-done week place (Serve order) h = by_order (order_of week order) h
     by_order None t = cc
     by_order (Some o) t = refl
 
-pub keeps-line : (week : Week) (open_off capacity : ℕ) (front : Front) → KeepsOfficeThrough week open_off capacity front → HasLine week open_off front
+pub keeps-line : (week : Week) (open_off capacity : ℕ) (partial : PartialDuty) → KeepsOfficeThrough week open_off capacity partial → HasLine week open_off partial
 keeps-line week open_off capacity [] k = tt
 keeps-line week open_off capacity (step ∷ before) k =
     (record { stay = k.0.stay; known = known-done week (place_after before) step.act k.0.road }, keeps-line week open_off capacity before k.1)

@@ -14,9 +14,9 @@ use Rattle.duty_plan.specs.declared.plans.Case.{Case}
 use Rattle.duty_plan.specs.declared.deciding.Pairs.{Pairs}
 use Rattle.duty_plan.specs.declared.pricing.Prices.{Prices}
 use Rattle.duty_plan.specs.Acts.{cents_of_act, cents_of_road, can_be_done, is_at, order_of_act, place_by}
-use Rattle.duty_plan.specs.Fronts.{Front, KeepsOfficeThrough, place_after}
-use Rattle.duty_plan.specs.Duties.{cents_after, orders_of, cost_after, fee_or_none, front_of, worth, times, open_off_at, capacity_at}
-use Rattle.duty_plan.specs.Values.{price_at, value_after, IsLowest}
+use Rattle.duty_plan.specs.PartialDuties.{PartialDuty, KeepsOfficeThrough, place_after}
+use Rattle.duty_plan.specs.Duties.{cents_after, orders_of, cost_after, fee_or_none, partial_of, worth, times, open_off_at, capacity_at}
+use Rattle.duty_plan.specs.Values.{price_at, reduced_cost, IsLowest}
 use Rattle.duty_plan.specs.Sums.{total_below}
 use Rattle.duty_plan.proofs.Sums.{share, total-share, total-mono, share-none, share-one}
 use Rattle.duty_plan.proofs.Carrying.{served-once, served-known}
@@ -27,7 +27,7 @@ pub record IsTripWeek (week : Week) : Type 0 where
   pub away : (order : ℕ) → is_at (order_of week order) 0 ≡ false
   pub fee : fee_or_none (driver_of week 0) ≡ 2000
 
--- what the legs of a front cost at least: two legs where it served an order and is home again, one where it is away
+-- what the legs of a partial duty cost at least: two legs where it served an order and is home again, one where it is away
 abbrev toll : List ℕ → ℕ → ℕ
 toll [] place = cond (eqb place 0) 0 3000
 toll (order ∷ orders) place = cond (eqb place 0) 6000 3000
@@ -59,13 +59,13 @@ toll-act week place Load orders cents w r l = omega arith
 toll-act week place (Serve order) orders cents w r l =
     omega (arith, toll-away order orders place (at-away week order place (w.away order) r (eqb place 0) refl))
 
-toll-front : (week : Week) (open_off capacity : ℕ) (front : Front) → IsTripWeek week → KeepsOfficeThrough week open_off capacity front →
-    toll (orders_of front) (place_after front) ≤ cents_after week front
-toll-front week open_off capacity [] w k = omega arith
-toll-front week open_off capacity (step ∷ before) w k =
+toll-partial : (week : Week) (open_off capacity : ℕ) (partial : PartialDuty) → IsTripWeek week → KeepsOfficeThrough week open_off capacity partial →
+    toll (orders_of partial) (place_after partial) ≤ cents_after week partial
+toll-partial week open_off capacity [] w k = omega arith
+toll-partial week open_off capacity (step ∷ before) w k =
     omega (
       arith,
-      toll-act week (place_after before) step.act (orders_of before) (cents_after week before) w k.0.road (toll-front week open_off capacity before w k.1),
+      toll-act week (place_after before) step.act (orders_of before) (cents_after week before) w k.0.road (toll-partial week open_off capacity before w k.1),
     )
 
 -- each order is paid for at most once
@@ -74,47 +74,47 @@ shared f o xs zero e l = omega (arith, share-none f o xs e)
 shared f o xs (suc zero) e l = omega (arith, share-one f o xs (omega arith))
 shared f o xs (suc (suc n)) e l = absurd (omega arith)
 
-worth-all : (week : Week) (open_off capacity : ℕ) (prices : Prices) (front : Front) → KeepsOfficeThrough week open_off capacity front →
-    worth (price_at prices) (orders_of front) ≤ total_below (price_at prices) (length week.orders)
-worth-all week open_off capacity prices front k =
+worth-all : (week : Week) (open_off capacity : ℕ) (prices : Prices) (partial : PartialDuty) → KeepsOfficeThrough week open_off capacity partial →
+    worth (price_at prices) (orders_of partial) ≤ total_below (price_at prices) (length week.orders)
+worth-all week open_off capacity prices partial k =
     omega (
       arith,
-      total-share (price_at prices) (length week.orders) (orders_of front) (λ o some. served-known week open_off capacity o front k some),
-      total-mono (λ o. share (price_at prices) o (orders_of front)) (price_at prices) (length week.orders)
-          (λ o l. shared (price_at prices) o (orders_of front) (times o (orders_of front)) refl (served-once week open_off capacity o front k)),
+      total-share (price_at prices) (length week.orders) (orders_of partial) (λ o some. served-known week open_off capacity o partial k some),
+      total-mono (λ o. share (price_at prices) o (orders_of partial)) (price_at prices) (length week.orders)
+          (λ o l. shared (price_at prices) o (orders_of partial) (times o (orders_of partial)) refl (served-once week open_off capacity o partial k)),
     )
 
--- what a front that is home again costs: nothing is carried, or two legs and the fee are paid
-abbrev AtLeast : Case → Front → Type 0
-AtLeast case front = (orders_of front ≡ []) ⊎ (8000 ≤ cost_after case 0 front)
+-- what a partial duty that is home again costs: nothing is carried, or two legs and the fee are paid
+abbrev AtLeast : Case → PartialDuty → Type 0
+AtLeast case partial = (orders_of partial ≡ []) ⊎ (8000 ≤ cost_after case 0 partial)
 
-cost-steps : (case : Case) (front : Front) → IsTripWeek case.week → (orders : List ℕ) → orders_of front ≡ orders → place_after front ≡ 0 →
-    toll orders 0 ≤ cents_after case.week front → AtLeast case front
-cost-steps case front w [] e home t = inl e
+cost-steps : (case : Case) (partial : PartialDuty) → IsTripWeek case.week → (orders : List ℕ) → orders_of partial ≡ orders → place_after partial ≡ 0 →
+    toll orders 0 ≤ cents_after case.week partial → AtLeast case partial
+cost-steps case partial w [] e home t = inl e
 cost-steps case [] w (order ∷ orders) e home t = cc
 cost-steps case (step ∷ before) w (order ∷ orders) e home t = inr (omega (arith, w.fee, t))
 
-cost-home : (case : Case) (front : Front) → IsTripWeek case.week → KeepsOfficeThrough case.week (open_off_at case 0) (capacity_at case 0) front →
-    place_after front ≡ 0 → AtLeast case front
-cost-home case front w k home =
-    cost-steps case front w (orders_of front) refl home
+cost-home : (case : Case) (partial : PartialDuty) → IsTripWeek case.week → KeepsOfficeThrough case.week (open_off_at case 0) (capacity_at case 0) partial →
+    place_after partial ≡ 0 → AtLeast case partial
+cost-home case partial w k home =
+    cost-steps case partial w (orders_of partial) refl home
     (omega (
       arith,
-      ap (λ (p : ℕ). toll (orders_of front) p) home,
-      toll-front case.week (open_off_at case 0) (capacity_at case 0) front w k,
+      ap (λ (p : ℕ). toll (orders_of partial) p) home,
+      toll-partial case.week (open_off_at case 0) (capacity_at case 0) partial w k,
     ))
 
 -- no duty is worth less than the cheapest trip less all prices, where these pay for the trip
 pub lowest-trip : (case : Case) (pairs : Pairs) (prices : Prices) (total : ℕ) → IsTripWeek case.week → total_below (price_at prices) (length case.week.orders) ≡ total → 8000 ≤ total →
     IsLowest case 0 pairs prices (pos 8000 -ℤ pos total)
-lowest-trip case pairs prices total w sum enough duty c = by_cost (cost-home case (front_of duty) w c.lawful.front.office c.lawful.home)
+lowest-trip case pairs prices total w sum enough duty c = by_cost (cost-home case (partial_of duty) w c.lawful.partial.office c.lawful.home)
   where
-    by_cost : AtLeast case (front_of duty) → (pos 8000 -ℤ pos total) ≤ℤ value_after case 0 prices (front_of duty)
+    by_cost : AtLeast case (partial_of duty) → (pos 8000 -ℤ pos total) ≤ℤ reduced_cost case 0 prices (partial_of duty)
     by_cost (inl none) =
-        let free : worth (price_at prices) (orders_of (front_of duty)) ≡ 0 = ap (worth (price_at prices)) none in
+        let free : worth (price_at prices) (orders_of (partial_of duty)) ≡ 0 = ap (worth (price_at prices)) none in
         omega (arith, ints, free)
     by_cost (inr paid) =
-        let most = worth-all case.week (open_off_at case 0) (capacity_at case 0) prices (front_of duty) c.lawful.front.office in
+        let most = worth-all case.week (open_off_at case 0) (capacity_at case 0) prices (partial_of duty) c.lawful.partial.office in
         omega (arith, ints, sum, most)
 
 -- each road has the cents that each leg has

@@ -1,4 +1,4 @@
--- How large the numbers of a front that keeps the office rules get.
+-- How large the numbers of a partial duty that keeps the office rules get.
 use Rattle.std.proofs.Common.{◌≡◌, ℕ, zero, suc, ◌+◌, ◌*◌, ◌≤◌, ◌<◌, Bool, true, false, List, [], ◌∷◌, length, Option, Some, None, slice_get, find, All, refl, subst, sym, ◌∙◌, arith, is_some, cond}
 use Rattle.std.proofs.lemmas.Bool.{leb-true}
 use Rattle.std.proofs.lemmas.List.Elements.{All-head, All-tail}
@@ -19,12 +19,12 @@ use Rattle.duty_plan.specs.declared.duties.Act.{Act}
 use Rattle.duty_plan.specs.declared.duties.Act.TheVariants.{Leg, Serve, Load}
 use Rattle.duty_plan.specs.declared.duties.Step.{Step}
 use Rattle.duty_plan.specs.Acts.{mark_of, minutes_of, minutes_of_road, minutes_of_order, cents_of_act, cents_of_road, can_be_done, is_at, used_by}
-use Rattle.duty_plan.specs.Fronts.{Front, at_after, start_of, place_after, line_after, used_after, may_carry, loaded_after, KeepsOfficeThrough}
+use Rattle.duty_plan.specs.PartialDuties.{PartialDuty, at_after, start_of, place_after, line_after, used_after, may_carry, loaded_after, KeepsOfficeThrough}
 use Rattle.duty_plan.specs.Duties.{cents_after, night_of}
-use Rattle.duty_plan.specs.declared.walks.Walk.{Walk}
+use Rattle.duty_plan.specs.declared.duty_checks.DutyCheck.{DutyCheck}
 use Rattle.minute_line.specs.declared.lines.History.{History}
 use Rattle.duty_plan.specs.Positions.{HasBit}
-use Rattle.duty_plan.specs.Walks.{StandsFor}
+use Rattle.duty_plan.specs.DutyChecks.{StandsFor}
 
 -- what holds of each holds of one that a look-up finds
 pub all-slice_get : {X : Type 0} (P : X → Type 0) (xs : List X) (i : ℕ) (x : X) → All P xs → slice_get xs i ≡ Some x → P x
@@ -79,7 +79,7 @@ has-bit week place (Leg to) w h = tt
 has-bit week place Load w h = tt
 has-bit week place (Serve order) w h = by_order (order_of week order) refl h
   where
-    by_order : (found : Option Order) → order_of week order ≡ found → is_at found place ≡ true → order < 64
+    by_order : (found : Option Order) → order_of week order ≡ found → is_at found place ≡ true → order < 128
     by_order None e t = cc
     by_order (Some o) e t = omega (arith, slice_get_within week.orders order o e, w.few.2)
 
@@ -93,13 +93,13 @@ length-with_stay stay mark n week =
       length-stretch stay.ready Ready Plain week,
     )
 
-pub at-step : (week : Week) (step : Step) (before : Front) →
+pub at-step : (week : Week) (step : Step) (before : PartialDuty) →
     at_after week (step ∷ before) ≡ start_of week step before + minutes_of week (place_after before) step.act
 at-step week step before = length-with_stay step.stay (mark_of step.act) (minutes_of week (place_after before) step.act) (line_after week before)
 
 -- each step takes a minute
-pub few-steps : (week : Week) (open_off capacity : ℕ) (front : Front) → IsWeek week → KeepsOfficeThrough week open_off capacity front →
-    length front ≤ at_after week front
+pub few-steps : (week : Week) (open_off capacity : ℕ) (partial : PartialDuty) → IsWeek week → KeepsOfficeThrough week open_off capacity partial →
+    length partial ≤ at_after week partial
 few-steps week open_off capacity [] w k = omega arith
 few-steps week open_off capacity (step ∷ before) w k =
     omega (
@@ -109,8 +109,8 @@ few-steps week open_off capacity (step ∷ before) w k =
       (small-act week (place_after before) step.act w k.0.road).some,
     )
 
--- a front ends in the week
-pub early : (week : Week) (open_off capacity : ℕ) (front : Front) → KeepsOfficeThrough week open_off capacity front → at_after week front ≤ 10080
+-- a partial duty ends in the week
+pub early : (week : Week) (open_off capacity : ℕ) (partial : PartialDuty) → KeepsOfficeThrough week open_off capacity partial → at_after week partial ≤ 10080
 early week open_off capacity [] k = omega arith
 early week open_off capacity (step ∷ before) k = leb-true (at_after week (step ∷ before)) 10080 k.0.late
 
@@ -122,7 +122,7 @@ light-step week capacity used true (Serve order) l h = leb-true _ capacity h
 light-step week capacity used false (Serve order) l h = cc
 
 -- a lorry carries no more than it can
-pub light : (week : Week) (open_off capacity : ℕ) (front : Front) → KeepsOfficeThrough week open_off capacity front → used_after week front ≤ capacity
+pub light : (week : Week) (open_off capacity : ℕ) (partial : PartialDuty) → KeepsOfficeThrough week open_off capacity partial → used_after week partial ≤ capacity
 light week open_off capacity [] k = omega arith
 light week open_off capacity (step ∷ before) k =
     light-step week capacity (used_after week before) (loaded_after before) step.act (light week open_off capacity before k.1) k.0.load
@@ -132,8 +132,8 @@ night-cheap true night h = h
 night-cheap false night h = omega arith
 
 -- each step costs at most so much
-pub cheap : (week : Week) (open_off capacity : ℕ) (front : Front) → IsWeek week → KeepsOfficeThrough week open_off capacity front →
-    cents_after week front ≤ 2000000 * length front
+pub cheap : (week : Week) (open_off capacity : ℕ) (partial : PartialDuty) → IsWeek week → KeepsOfficeThrough week open_off capacity partial →
+    cents_after week partial ≤ 2000000 * length partial
 cheap week open_off capacity [] w k = omega arith
 cheap week open_off capacity (step ∷ before) w k =
     let night : night_of week step before ≤ 1000000 = night-cheap _ week.night w.night in
@@ -145,15 +145,15 @@ cheap week open_off capacity (step ∷ before) w k =
     )
 
 -- the numbers of a walk are small
-pub record IsBounded (walk : Walk) : Type 0 where
-  pub steps : walk.steps ≤ 10080
-  pub cents : walk.cents ≤ 20160000000
+pub record IsBounded (check : DutyCheck) : Type 0 where
+  pub steps : check.steps ≤ 10080
+  pub cents : check.cents ≤ 20160000000
 
-pub bounded : (week : Week) (driver : Driver) (history : History) (front : Front) (walk : Walk) → IsWeek week → IsDriver driver →
-    StandsFor week driver history front walk → IsBounded walk
-bounded week driver history front walk w d s =
-    let few = few-steps week history.open_off driver.capacity front w s.office in
-    let end = early week history.open_off driver.capacity front s.office in record {
+pub bounded : (week : Week) (driver : Driver) (history : History) (partial : PartialDuty) (check : DutyCheck) → IsWeek week → IsDriver driver →
+    StandsFor week driver history partial check → IsBounded check
+bounded week driver history partial check w d s =
+    let few = few-steps week history.open_off driver.capacity partial w s.office in
+    let end = early week history.open_off driver.capacity partial s.office in record {
       steps = omega (arith, s.steps, few, end);
-      cents = omega (arith, s.cents, cheap week history.open_off driver.capacity front w s.office, few, end);
+      cents = omega (arith, s.cents, cheap week history.open_off driver.capacity partial w s.office, few, end);
     }

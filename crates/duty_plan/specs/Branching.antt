@@ -27,7 +27,7 @@ IsBestFirst week tree = (k child : ℕ) (node forcing other : Node) (j : ℕ) �
 
 -- what the kept plan cost when a node was branched: above the node's bound, from the final cost to the cost of giving all
 -- orders away, and never rising in the order of branching; 0 for a node that was not branched
-pub record SeesCosts (week : Week) (cost : ℕ) (tree : List Node) : Type 0 where
+pub record HasIncumbentCosts (week : Week) (cost : ℕ) (tree : List Node) : Type 0 where
   pub unbranched : (k : ℕ) (node : Node) → IsNode tree k node → node.state ≢ Branched → node.seen ≡ 0
   pub branched : (k : ℕ) (node : Node) → IsNode tree k node → node.state ≡ Branched →
       (node.bound < node.seen) × (cost ≤ node.seen) × (node.seen ≤ cost_of_all week)
@@ -35,14 +35,14 @@ pub record SeesCosts (week : Week) (cost : ℕ) (tree : List Node) : Type 0 wher
       IsNode tree first.parent a → IsNode tree second.parent b → b.seen ≤ a.seen
 
 -- the order is uneven after a run: there is a whole round, and in the last of them not just one duty carries the order
-abbrev pub IsUneven : List Round → ℕ → Type 0
-IsUneven rounds order = (k : ℕ) × (round : Round) × (slice_get rounds k ≡ Some round) × (is_whole round.answers ≡ true) ×
+abbrev pub ViolatesCover : List Round → ℕ → Type 0
+ViolatesCover rounds order = (k : ℕ) × (round : Round) × (slice_get rounds k ≡ Some round) × (is_whole round.answers ≡ true) ×
     ((j : ℕ) (later : Round) → k < j → slice_get rounds j ≡ Some later → is_whole later.answers ≡ true → ⊥) × (carriers order round.answers ≢ 1)
 
 -- the driver and order at which a node is branched: of those that are Free there, the one of the least order, then of the
 -- least driver, among the uneven orders, or among all orders where no uneven one is Free for a driver
-pub record IsPick (week : Week) (tree : List Node) (number : ℕ) (rounds : List Round) (driver order : ℕ) : Type 0 where
+pub record IsBranchingPair (week : Week) (tree : List Node) (number : ℕ) (rounds : List Round) (driver order : ℕ) : Type 0 where
   pub free : IsFreeAt tree number driver order
-  pub uneven : ((d o : ℕ) → d < length week.drivers → o < length week.orders → IsFreeAt tree number d o → IsUneven rounds o → ⊥) ⊎ IsUneven rounds order
-  pub least : (d o : ℕ) → d < length week.drivers → o < length week.orders → IsFreeAt tree number d o → (IsUneven rounds order → IsUneven rounds o) →
+  pub uneven : ((d o : ℕ) → d < length week.drivers → o < length week.orders → IsFreeAt tree number d o → ViolatesCover rounds o → ⊥) ⊎ ViolatesCover rounds order
+  pub least : (d o : ℕ) → d < length week.drivers → o < length week.orders → IsFreeAt tree number d o → (ViolatesCover rounds order → ViolatesCover rounds o) →
       (order < o) ⊎ ((order ≡ o) × (driver ≤ d))

@@ -2,6 +2,7 @@
 use Rattle.std.specs.Prelude.{◌≡◌, ℕ, ◌+◌, ◌<◌, not, ◌&&◌, ◌==◌, if◌then◌else◌, List, [], ◌∷◌, ◌++◌, length, reverse, Option, Some, None, slice_get}
 use Rattle.minute_line.specs.declared.lines.History.{History}
 use Rattle.minute_line.specs.Marks.{is_daily}
+use Rattle.hours_rules.specs.Debts.{no_debt}
 use Rattle.hours_rules.specs.Rules.{Past, fault}
 use Rattle.hours_rules.specs.Verdicts.{past_of}
 use Rattle.week_book.specs.declared.weeks.Order.{Order}
@@ -13,19 +14,19 @@ use Rattle.duty_plan.specs.declared.duties.Duty.{Duty}
 use Rattle.duty_plan.specs.declared.plans.Plan.{Plan}
 use Rattle.duty_plan.specs.declared.plans.Case.{Case}
 use Rattle.duty_plan.specs.Acts.{cents_of_act, order_of_act}
-use Rattle.duty_plan.specs.Fronts.{Front, line_after, place_after, KeepsOfficeThrough}
+use Rattle.duty_plan.specs.PartialDuties.{PartialDuty, line_after, place_after, KeepsOfficeThrough}
 
 -- P holds of each element of a list, at its number from 0
 abbrev pub EachOf : {X : Type 0} → (ℕ → X → Type 0) → List X → Type 0
 EachOf {X} P xs = (n : ℕ) (x : X) → slice_get xs n ≡ Some x → P n x
 
 -- the steps of a duty, the newest first
-abbrev pub front_of : Duty → Front
-front_of duty = reverse duty.steps
+abbrev pub partial_of : Duty → PartialDuty
+partial_of duty = reverse duty.steps
 
 -- what a history puts before Monday, or nothing
 abbrev pub past_or_none : Option History → Past
-past_or_none None = record { minutes = []; prev_weekly = 0; prev_drive = 0; work_before = 0 }
+past_or_none None = record { minutes = []; prev_weekly = 0; prev_drive = 0; work_before = 0; debt = no_debt }
 past_or_none (Some history) = past_of history
 
 -- what stands before a driver's Monday
@@ -64,41 +65,41 @@ price_or_none (Some order) = order.price
 abbrev pub price_of : Week → ℕ → ℕ
 price_of week order = price_or_none (order_of week order)
 
--- a front is lawful for a driver: the office rules hold at each step, and no hours rule fails
-pub record IsLawfulFront (case : Case) (driver : ℕ) (front : Front) : Type 0 where
-  pub office : KeepsOfficeThrough case.week (open_off_at case driver) (capacity_at case driver) front
-  pub hours : fault (past_at case driver) (line_after case.week front) ≡ None
+-- a partial duty is lawful for a driver: the office rules hold at each step, and no hours rule fails
+pub record IsLawfulPartialDuty (case : Case) (driver : ℕ) (partial : PartialDuty) : Type 0 where
+  pub office : KeepsOfficeThrough case.week (open_off_at case driver) (capacity_at case driver) partial
+  pub hours : fault (past_at case driver) (line_after case.week partial) ≡ None
 
 -- a duty is lawful for a driver: its steps are, and they end at the depot; the Off minutes after them break no rule
 pub record IsLawful (case : Case) (driver : ℕ) (duty : Duty) : Type 0 where
-  pub front : IsLawfulFront case driver (front_of duty)
-  pub home : place_after (front_of duty) ≡ 0
+  pub partial : IsLawfulPartialDuty case driver (partial_of duty)
+  pub home : place_after (partial_of duty) ≡ 0
 
 -- a Daily stay away from the depot costs a night
-abbrev pub night_of : Week → Step → Front → ℕ
+abbrev pub night_of : Week → Step → PartialDuty → ℕ
 night_of week step before = if is_daily step.stay.kind && not (place_after before == 0) then week.night else 0
 
 -- the cents of the legs and the nights
-abbrev pub cents_after : Week → Front → ℕ
+abbrev pub cents_after : Week → PartialDuty → ℕ
 cents_after week [] = 0
 cents_after week (step ∷ before) =
     night_of week step before + (cents_of_act week (place_after before) step.act + cents_after week before)
 
--- what a front costs a driver, in cents: nothing where it has no step, else the fee, the legs and the nights
-abbrev pub cost_after : Case → ℕ → Front → ℕ
+-- what a partial duty costs a driver, in cents: nothing where it has no step, else the fee, the legs and the nights
+abbrev pub cost_after : Case → ℕ → PartialDuty → ℕ
 cost_after case driver [] = 0
 cost_after case driver (step ∷ before) =
     fee_or_none (driver_of case.week driver) + cents_after case.week (step ∷ before)
 
--- the orders that a front serves
-abbrev pub orders_of : Front → List ℕ
+-- the orders that a partial duty serves
+abbrev pub orders_of : PartialDuty → List ℕ
 orders_of [] = []
 orders_of (step ∷ before) = order_of_act step.act ++ orders_of before
 
 -- the orders that the duties serve
 abbrev pub carried : List Duty → List ℕ
 carried [] = []
-carried (duty ∷ rest) = orders_of (front_of duty) ++ carried rest
+carried (duty ∷ rest) = orders_of (partial_of duty) ++ carried rest
 
 -- how often a number is in a list
 abbrev pub times : ℕ → List ℕ → ℕ
@@ -111,20 +112,20 @@ worth price [] = 0
 worth price (order ∷ rest) = price order + worth price rest
 
 -- in how many places an order is: served by a duty, or given away
-abbrev pub places_of : Plan → ℕ → ℕ
-places_of plan order = times order (carried plan.duties) + times order plan.out
+abbrev pub times_placed : Plan → ℕ → ℕ
+times_placed plan order = times order (carried plan.duties) + times order plan.out
 
 -- a plan is lawful: one lawful duty for each driver, and each order once among those served and those given away
 pub record IsLawfulPlan (case : Case) (plan : Plan) : Type 0 where
   pub duties : length plan.duties ≡ length case.week.drivers
   pub lawful : EachOf (IsLawful case) plan.duties
-  pub once : (order : ℕ) → order < length case.week.orders → places_of plan order ≡ 1
+  pub once : (order : ℕ) → order < length case.week.orders → times_placed plan order ≡ 1
   pub known : EachOf (λ n order. order < length case.week.orders) plan.out
 
 -- the cost of duties in cents, the first of which is that driver's
 abbrev pub cost_of_duties : Case → ℕ → List Duty → ℕ
 cost_of_duties case driver [] = 0
-cost_of_duties case driver (duty ∷ rest) = cost_after case driver (front_of duty) + cost_of_duties case (driver + 1) rest
+cost_of_duties case driver (duty ∷ rest) = cost_after case driver (partial_of duty) + cost_of_duties case (driver + 1) rest
 
 -- the cost of a plan in cents: its duties', and what subcontractors take
 abbrev pub cost_of_plan : Case → Plan → ℕ

@@ -5,28 +5,28 @@ use Rattle.duty_plan.specs.declared.plans.Case.{Case}
 use Rattle.duty_plan.specs.declared.deciding.Pairs.{Pairs}
 use Rattle.duty_plan.specs.declared.pricing.Prices.{Prices}
 use Rattle.duty_plan.specs.declared.labels.Label.{Label}
-use Rattle.duty_plan.specs.Fronts.{Front, serves}
+use Rattle.duty_plan.specs.PartialDuties.{PartialDuty, serves}
 use Rattle.duty_plan.specs.Labels.{IsLabelOf, served_after, bits_below}
 use Rattle.duty_plan.specs.LabelLists.{IsLabelList, Entry}
 
--- the bits of the served orders are the orders that a front serves, and no bit above them is set
+-- the bits of the served orders are the orders that a partial duty serves, and no bit above them is set
 abbrev pub HasServedBits : Type 0
-HasServedBits = (order : ℕ) (front : Front) → bit_at (served_after front) order ≡ (if serves order front then 1 else 0)
+HasServedBits = (order : ℕ) (partial : PartialDuty) → bit_at (served_after partial) order ≡ (if serves order partial then 1 else 0)
 
 -- the bits of a number made of tests are the numbers at which the test holds
 abbrev pub HasTestBits : Type 0
 HasTestBits = (test : ℕ → Bool) (n k : ℕ) → k < n → bit_at (bits_below test n) k ≡ (if test k then 1 else 0)
 
--- a front has one label
+-- a partial duty has one label
 abbrev pub HasOneLabel : Type 0
-HasOneLabel = (case : Case) (driver : ℕ) (prices : Prices) (a b : Label) (front : Front) →
-    IsLabelOf case driver prices a front → IsLabelOf case driver prices b front → a ≡ b
+HasOneLabel = (case : Case) (driver : ℕ) (prices : Prices) (a b : Label) (partial : PartialDuty) →
+    IsLabelOf case driver prices a partial → IsLabelOf case driver prices b partial → a ≡ b
 
--- the list of the empty front's label alone
+-- the list of the empty partial duty's label alone
 abbrev pub alone : Label → List Entry
-alone label = record { label = label; front = []; parent = 0 } ∷ []
+alone label = record { label = label; partial = []; parent = 0 } ∷ []
 
--- the empty front's label alone is a label list
+-- the empty partial duty's label alone is a label list
 abbrev pub IsListAlone : Type 0
 IsListAlone = (case : Case) (driver : ℕ) (pairs : Pairs) (prices : Prices) (label : Label) → IsLabelOf case driver prices label [] →
     IsLabelList case driver pairs prices (alone label)

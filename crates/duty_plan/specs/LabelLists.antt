@@ -8,66 +8,66 @@ use Rattle.duty_plan.specs.declared.deciding.Pair.TheVariants.{Forced, Barred}
 use Rattle.duty_plan.specs.declared.deciding.Pairs.{Pairs}
 use Rattle.duty_plan.specs.declared.pricing.Prices.{Prices}
 use Rattle.duty_plan.specs.declared.labels.Label.{Label}
-use Rattle.duty_plan.specs.Fronts.{Front, place_after, at_after, serves}
-use Rattle.duty_plan.specs.Duties.{EachOf, IsLawfulFront}
-use Rattle.duty_plan.specs.Values.{pair_at, price_at, IsInside, value_after, is_barred}
+use Rattle.duty_plan.specs.PartialDuties.{PartialDuty, place_after, at_after, serves}
+use Rattle.duty_plan.specs.Duties.{EachOf, IsLawfulPartialDuty}
+use Rattle.duty_plan.specs.Values.{pair_at, price_at, IsInside, reduced_cost, is_barred}
 use Rattle.duty_plan.specs.Sums.{total_below}
-use Rattle.duty_plan.specs.Labels.{IsLabelOf, AllListed, IsBetter, closes_of, forced_orders}
+use Rattle.duty_plan.specs.Labels.{IsLabelOf, AllListed, Dominates, closes_of, forced_orders}
 
--- an entry of a list: a label, a front that has it, and the number of the entry that it was extended from
+-- an entry of a list: a label, a partial duty that has it, and the number of the entry that it was extended from
 pub record Entry : Type 0 where
   pub label : Label
-  pub front : Front
+  pub partial : PartialDuty
   pub parent : ℕ
 
--- the entry has the label of a lawful front with listed stays that serves no order Barred for the driver
+-- the entry has the label of a lawful partial duty with listed stays that serves no order Barred for the driver
 pub record IsEntry (case : Case) (driver : ℕ) (pairs : Pairs) (prices : Prices) (entry : Entry) : Type 0 where
-  pub label : IsLabelOf case driver prices entry.label entry.front
-  pub lawful : IsLawfulFront case driver entry.front
-  pub listed : AllListed case.week entry.front
-  pub unbarred : (order : ℕ) → order < length case.week.orders → pair_at pairs driver order ≡ Barred → serves order entry.front ≡ false
+  pub label : IsLabelOf case driver prices entry.label entry.partial
+  pub lawful : IsLawfulPartialDuty case driver entry.partial
+  pub listed : AllListed case.week entry.partial
+  pub unbarred : (order : ℕ) → order < length case.week.orders → pair_at pairs driver order ≡ Barred → serves order entry.partial ≡ false
 
--- the entry was extended from an earlier one: its front without the last step has that one's label
+-- the entry was extended from an earlier one: its partial duty without the last step has that one's label
 pub record IsExtended (case : Case) (driver : ℕ) (prices : Prices) (entries : List Entry) (n : ℕ) (entry : Entry) : Type 0 where
   pub from : Entry
   pub step : Step
-  pub before : Front
+  pub before : PartialDuty
   pub earlier : entry.parent < n
   pub is_from : slice_get entries entry.parent ≡ Some from
-  pub is_step : entry.front ≡ step ∷ before
+  pub is_step : entry.partial ≡ step ∷ before
   pub has_label : IsLabelOf case driver prices from.label before
 
--- the price of an order that a longer duty may still bring in: the front doesn't serve it, it isn't Barred, and its
--- window closes no earlier than the front ends
-abbrev pub still_open : Week → ℕ → Pairs → Prices → Front → ℕ → ℕ
-still_open week driver pairs prices front order =
-    if not (serves order front) && (not (is_barred (pair_at pairs driver order))
-    && nat_le (at_after week front) (closes_of (order_of week order)))
+-- the price of an order that a longer duty may still bring in: the partial duty doesn't serve it, it isn't Barred, and its
+-- window closes no earlier than the partial duty ends
+abbrev pub still_open : Week → ℕ → Pairs → Prices → PartialDuty → ℕ → ℕ
+still_open week driver pairs prices partial order =
+    if not (serves order partial) && (not (is_barred (pair_at pairs driver order))
+    && nat_le (at_after week partial) (closes_of (order_of week order)))
     then price_at prices order else 0
 
--- the least value to be hoped for of a duty that begins with the front: its value less the prices of all such orders
-abbrev pub hope : Case → ℕ → Pairs → Prices → Front → ℤ
-hope case driver pairs prices front =
-    value_after case driver prices front -ℤ pos (total_below (still_open case.week driver pairs prices front) (length case.week.orders))
+-- the least value to be hoped for of a duty that begins with the partial duty: its value less the prices of all such orders
+abbrev pub completion_bound : Case → ℕ → Pairs → Prices → PartialDuty → ℤ
+completion_bound case driver pairs prices partial =
+    reduced_cost case driver prices partial -ℤ pos (total_below (still_open case.week driver pairs prices partial) (length case.week.orders))
 
--- a label list of a driver: the first entry is the empty front's, and each later one was extended from an earlier one;
+-- a label list of a driver: the first entry is the empty partial duty's, and each later one was extended from an earlier one;
 -- no entry but the first betters a later one, nor any that was extended; each but the first serves the forced orders
--- whose windows have closed; and each may hope for less than the value of any earlier entry that is a duty inside
+-- whose windows have closed; and the completion bound of each is below the value of any earlier entry that is a duty inside
 pub record IsLabelList (case : Case) (driver : ℕ) (pairs : Pairs) (prices : Prices) (entries : List Entry) : Type 0 where
   pub some : 0 < length entries
   pub entry : EachOf (λ n e. IsEntry case driver pairs prices e) entries
-  pub first : (e : Entry) → slice_get entries 0 ≡ Some e → e.front ≡ []
+  pub first : (e : Entry) → slice_get entries 0 ≡ Some e → e.partial ≡ []
   pub extended : (n : ℕ) (e : Entry) → 0 < n → slice_get entries n ≡ Some e → IsExtended case driver prices entries n e
   pub not_bettered : (n k : ℕ) (e better : Entry) → 0 < k → k < n → slice_get entries n ≡ Some e →
-      slice_get entries k ≡ Some better → IsBetter better.label e.label (forced_orders case.week pairs driver) → ⊥
+      slice_get entries k ≡ Some better → Dominates better.label e.label (forced_orders case.week pairs driver) → ⊥
   pub best_extended : (n k child : ℕ) (e better c : Entry) → 0 < n → 0 < k → 0 < child → k ≢ n → slice_get entries n ≡ Some e →
       slice_get entries k ≡ Some better → slice_get entries child ≡ Some c → c.parent ≡ n →
-      IsBetter better.label e.label (forced_orders case.week pairs driver) → ⊥
+      Dominates better.label e.label (forced_orders case.week pairs driver) → ⊥
   pub on_time : (n order : ℕ) (e : Entry) → 0 < n → slice_get entries n ≡ Some e → order < length case.week.orders →
-      pair_at pairs driver order ≡ Forced → closes_of (order_of case.week order) < at_after case.week e.front → serves order e.front ≡ true
+      pair_at pairs driver order ≡ Forced → closes_of (order_of case.week order) < at_after case.week e.partial → serves order e.partial ≡ true
   pub hopeful : (n k : ℕ) (e known : Entry) → k < n → slice_get entries n ≡ Some e → slice_get entries k ≡ Some known →
-      place_after known.front ≡ 0 → IsInside case.week pairs driver known.front →
-      hope case driver pairs prices e.front <ℤ value_after case driver prices known.front
+      place_after known.partial ≡ 0 → IsInside case.week pairs driver known.partial →
+      completion_bound case driver pairs prices e.partial <ℤ reduced_cost case driver prices known.partial
 
 -- how many entries some lists have together
 abbrev pub total_length : List (List Entry) → ℕ
@@ -86,18 +86,18 @@ pub record FillChunks (m : ℕ) (case : Case) (pairs : Pairs) (prices : Prices) 
   pub long : (m - length case.week.drivers + 1) * 1024 ≤ total_length lists
 
 -- a round of a pricer of m chunks may answer Spent: there are fewer chunks than drivers, or label lists fill them
-abbrev pub MaySpend : ℕ → Case → Pairs → Prices → Type 0
-MaySpend m case pairs prices = (m < length case.week.drivers) ⊎ FillChunks m case pairs prices
+abbrev pub MayExhaustLabels : ℕ → Case → Pairs → Prices → Type 0
+MayExhaustLabels m case pairs prices = (m < length case.week.drivers) ⊎ FillChunks m case pairs prices
 
 -- so many labels may be stored for a driver: none, or as many as a label list has
 abbrev pub MayStore : Case → ℕ → Pairs → Prices → ℕ → Type 0
 MayStore case driver pairs prices stored =
     (stored ≡ 0) ⊎ ((entries : List Entry) × IsLabelList case driver pairs prices entries × (length entries ≡ stored))
 
--- a label that counts for a driver's reach: a lawful front with listed stays that serves no Barred order has it
+-- a label that counts for a driver's reach: a lawful partial duty with listed stays that serves no Barred order has it
 abbrev pub IsReached : Case → ℕ → Pairs → Prices → Label → Type 0
 IsReached case driver pairs prices label =
-    (front : Front) × IsEntry case driver pairs prices (record { label = label; front = front; parent = 0 })
+    (partial : PartialDuty) × IsEntry case driver pairs prices (record { label = label; partial = partial; parent = 0 })
 
 -- the reach of a driver is the length of this list, which has each such label once
 pub record AreReached (case : Case) (driver : ℕ) (pairs : Pairs) (prices : Prices) (labels : List Label) : Type 0 where

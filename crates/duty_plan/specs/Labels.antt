@@ -3,7 +3,7 @@ use Rattle.std.specs.Prelude.{bit_or, zero, suc, ◌≡◌, ℕ, ◌+◌, ◌-�
 use Rattle.std.specs.Int.{bit_at}
 use Rattle.minute_line.specs.Marks.{is_rest}
 use Rattle.hours_rules.specs.Standing.{Stands}
-use Rattle.hours_rules.specs.Order.{IsBetterClock}
+use Rattle.hours_rules.specs.Order.{ClockDominates}
 use Rattle.week_book.specs.declared.weeks.Order.{Order}
 use Rattle.week_book.specs.declared.weeks.Week.{Week}
 use Rattle.week_book.specs.Weeks.{order_of}
@@ -16,9 +16,9 @@ use Rattle.duty_plan.specs.declared.deciding.Pair.TheVariants.{Free, Forced, Bar
 use Rattle.duty_plan.specs.declared.deciding.Pairs.{Pairs}
 use Rattle.duty_plan.specs.declared.pricing.Prices.{Prices}
 use Rattle.duty_plan.specs.declared.labels.Label.{Label}
-use Rattle.duty_plan.specs.Fronts.{Front, line_after, place_after, at_after, used_after, loaded_after}
+use Rattle.duty_plan.specs.PartialDuties.{PartialDuty, line_after, place_after, at_after, used_after, loaded_after}
 use Rattle.duty_plan.specs.Duties.{past_at}
-use Rattle.duty_plan.specs.Values.{pair_at, value_after}
+use Rattle.duty_plan.specs.Values.{pair_at, reduced_cost}
 
 -- the order that an act serves, as a bit
 abbrev pub bit_of_act : Act → ℕ
@@ -26,25 +26,25 @@ bit_of_act (Leg to) = 0
 bit_of_act (Serve order) = 2 ^ order
 bit_of_act Load = 0
 
--- the orders that a front serves, as the bits of one number: order n is the bit n, and no other bit is set
-abbrev pub served_after : Front → ℕ
+-- the orders that a partial duty serves, as the bits of one number: order n is the bit n, and no other bit is set
+abbrev pub served_after : PartialDuty → ℕ
 served_after [] = 0
 served_after (step ∷ before) = bit_or (served_after before) (bit_of_act step.act)
 
--- the front is not the empty one
-abbrev pub has_step : Front → Bool
+-- the partial duty is not the empty one
+abbrev pub has_step : PartialDuty → Bool
 has_step [] = false
 has_step (step ∷ before) = true
 
--- the label of a front: each of its fields is fixed, so that a front has one label
-pub record IsLabelOf (case : Case) (driver : ℕ) (prices : Prices) (label : Label) (front : Front) : Type 0 where
-  pub clock : Stands label.clock (past_at case driver) (line_after case.week front)
-  pub place : label.place ≡ place_after front
-  pub served : label.served ≡ served_after front
-  pub used : label.used ≡ used_after case.week front
-  pub loaded : label.loaded ≡ loaded_after front
-  pub fee_paid : label.fee_paid ≡ has_step front
-  pub value : label.value ≡ value_after case driver prices front
+-- the label of a partial duty: each of its fields is fixed, so that a partial duty has one label
+pub record IsLabelOf (case : Case) (driver : ℕ) (prices : Prices) (label : Label) (partial : PartialDuty) : Type 0 where
+  pub clock : Stands label.clock (past_at case driver) (line_after case.week partial)
+  pub place : label.place ≡ place_after partial
+  pub served : label.served ≡ served_after partial
+  pub used : label.used ≡ used_after case.week partial
+  pub loaded : label.loaded ≡ loaded_after partial
+  pub fee_paid : label.fee_paid ≡ has_step partial
+  pub value : label.value ≡ reduced_cost case driver prices partial
 
 -- the first minute at which an order's service may start
 abbrev pub opens_of : Option Order → ℕ
@@ -58,7 +58,7 @@ closes_of (Some order) = order.closes
 
 -- the Ready minutes of a listed Plain stay: those that are left until the order's window opens, and none before
 -- another act
-abbrev pub listed_ready : Week → Step → Front → ℕ
+abbrev pub listed_ready : Week → Step → PartialDuty → ℕ
 listed_ready week step before = elim step.act [
   | Leg to ↦ 0
   | Serve order ↦ opens_of (order_of week order) - (at_after week before + step.stay.off)
@@ -67,20 +67,20 @@ listed_ready week step before = elim step.act [
 
 -- a stay is listed: a daily or weekly rest has no Ready minute, and a Plain stay just those until the window; the Off
 -- minutes and the start of the act are any that the office rules allow
-abbrev pub is_listed : Week → Step → Front → Bool
+abbrev pub is_listed : Week → Step → PartialDuty → Bool
 is_listed week step before =
     step.stay.ready == (if is_rest step.stay.kind then 0 else listed_ready week step before)
 
--- each stay of a front is listed
-abbrev pub AllListed : Week → Front → Type 0
+-- each stay of a partial duty is listed
+abbrev pub AllListed : Week → PartialDuty → Type 0
 AllListed week [] = Unit {0}
 AllListed week (step ∷ before) = (is_listed week step before ≡ true) × AllListed week before
 
 -- a label betters another, for a driver with these forced orders, given as bits: the same place, a clock that is as
 -- good, no more load, no larger value, a load act where the other has one, no order that the other doesn't serve, and
 -- the same forced orders
-pub record IsBetter (a b : Label) (forced : ℕ) : Type 0 where
-  pub clock : IsBetterClock a.clock b.clock
+pub record Dominates (a b : Label) (forced : ℕ) : Type 0 where
+  pub clock : ClockDominates a.clock b.clock
   pub place : a.place ≡ b.place
   pub used : a.used ≤ b.used
   pub value : a.value ≤ℤ b.value

@@ -12,28 +12,28 @@ use Rattle.duty_plan.specs.declared.duties.Step.{Step}
 use Rattle.duty_plan.specs.declared.plans.Case.{Case}
 use Rattle.duty_plan.specs.declared.plans.Plan.{Plan}
 use Rattle.duty_plan.specs.Acts.{is_open}
-use Rattle.duty_plan.specs.Fronts.{Front, line_after, start_of, used_after}
-use Rattle.duty_plan.specs.Duties.{IsLawfulPlan, front_of, carried, times, capacity_at}
+use Rattle.duty_plan.specs.PartialDuties.{PartialDuty, line_after, start_of, used_after}
+use Rattle.duty_plan.specs.Duties.{IsLawfulPlan, partial_of, carried, times, capacity_at}
 use Rattle.duty_plan.specs.Stints.{stints_of}
 
--- the stints of a front have the minutes of its line
+-- the stints of a partial duty have the minutes of its line
 abbrev pub HasItsMinutes : Type 0
-HasItsMinutes = (week : Week) (front : Front) → (reached_by (stints_of week front)).minutes ≡ line_after week front
+HasItsMinutes = (week : Week) (partial : PartialDuty) → (reached_by (stints_of week partial)).minutes ≡ line_after week partial
 
--- the Off minutes that fill the week after a front break no rule and mend none
+-- the Off minutes that fill the week after a partial duty break no rule and mend none
 abbrev pub IsRestFree : Type 0
-IsRestFree = (past : Past) (week : Week) (front : Front) (n : ℕ) →
-    fault past (stretch n Off Plain (line_after week front)) ≡ fault past (line_after week front)
+IsRestFree = (past : Past) (week : Week) (partial : PartialDuty) (n : ℕ) →
+    fault past (stretch n Off Plain (line_after week partial)) ≡ fault past (line_after week partial)
 
 -- a step of a driver's duty serves the order, and starts inside the order's window
 pub record IsServed (case : Case) (plan : Plan) (order : ℕ) : Type 0 where
   pub driver : ℕ
   pub duty : Duty
-  pub later : Front
+  pub later : PartialDuty
   pub step : Step
-  pub before : Front
+  pub before : PartialDuty
   pub of_driver : slice_get plan.duties driver ≡ Some duty
-  pub of_duty : front_of duty ≡ later ++ (step ∷ before)
+  pub of_duty : partial_of duty ≡ later ++ (step ∷ before)
   pub serves : step.act ≡ Serve order
   pub inside : is_open (order_of case.week order) (start_of case.week step before) ≡ true
 
@@ -46,5 +46,5 @@ HasEachOrderOnce = (case : Case) (plan : Plan) → IsLawfulPlan case plan → (o
 
 -- in a lawful plan no lorry carries more than its capacity at any step since its last load
 abbrev pub IsNeverOverloaded : Type 0
-IsNeverOverloaded = (case : Case) (plan : Plan) → IsLawfulPlan case plan → (driver : ℕ) (duty : Duty) (later before : Front) →
-    slice_get plan.duties driver ≡ Some duty → front_of duty ≡ later ++ before → used_after case.week before ≤ capacity_at case driver
+IsNeverOverloaded = (case : Case) (plan : Plan) → IsLawfulPlan case plan → (driver : ℕ) (duty : Duty) (later before : PartialDuty) →
+    slice_get plan.duties driver ≡ Some duty → partial_of duty ≡ later ++ before → used_after case.week before ≤ capacity_at case driver

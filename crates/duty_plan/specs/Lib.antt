@@ -1,11 +1,11 @@
 pub mod Acts
-pub mod Fronts
+pub mod PartialDuties
 pub mod Duties
 pub mod Verdicts
 pub mod Stints
 pub mod Sums
 pub mod Positions
-pub mod Walks
+pub mod DutyChecks
 pub mod Laws
 pub mod Values
 pub mod Labels
@@ -15,3 +15,6 @@ pub mod Nodes
 pub mod Branching
 pub mod Trees
 pub mod LabelLaws
+pub mod PricingLaws
+pub mod Twins
+pub mod SharedRounds

@@ -1,4 +1,4 @@
--- Where a front leaves a driver, and what the office rules say of one step more.
+-- Where a partial duty leaves a driver, and what the office rules say of one step more.
 use Rattle.std.specs.Prelude.{◌≡◌, ℕ, ◌+◌, ◌<◌, Some, Result, MatchResult, ◌∷◌, option_map}
 use Rattle.week_book.specs.declared.weeks.Week.{Week}
 use Rattle.duty_plan.specs.declared.duties.Act.{Act}
@@ -6,37 +6,37 @@ use Rattle.duty_plan.specs.declared.duties.Act.TheVariants.{Leg, Serve, Load}
 use Rattle.duty_plan.specs.declared.duties.Step.{Step}
 use Rattle.duty_plan.specs.declared.faults.DutyFault.{DutyFault}
 use Rattle.duty_plan.specs.declared.positions.Position.{Position}
-use Rattle.duty_plan.specs.declared.positions.Taken.{Taken}
+use Rattle.duty_plan.specs.declared.positions.StepEffect.{StepEffect}
 use Rattle.duty_plan.specs.Acts.{minutes_of, cents_of_act}
-use Rattle.duty_plan.specs.Fronts.{Front, at_after, place_after, used_after, loaded_after, KeepsOffice, KeepsOfficeThrough}
+use Rattle.duty_plan.specs.PartialDuties.{PartialDuty, at_after, place_after, used_after, loaded_after, KeepsOffice, KeepsOfficeThrough}
 use Rattle.duty_plan.specs.Duties.{night_of}
 use Rattle.duty_plan.specs.Labels.{has_step, served_after}
 use Rattle.duty_plan.specs.Verdicts.{first_failed, numbered, tests_of_step}
 
--- the position is where the front leaves the driver
-pub record IsPositionOf (week : Week) (front : Front) (position : Position) : Type 0 where
-  pub at : position.at ≡ at_after week front
-  pub place : position.place ≡ place_after front
-  pub used : position.used ≡ used_after week front
-  pub loaded : position.loaded ≡ loaded_after front
-  pub begun : position.begun ≡ has_step front
-  pub served : position.served ≡ served_after front
+-- the position is where the partial duty leaves the driver
+pub record IsPositionOf (week : Week) (partial : PartialDuty) (position : Position) : Type 0 where
+  pub at : position.at ≡ at_after week partial
+  pub place : position.place ≡ place_after partial
+  pub used : position.used ≡ used_after week partial
+  pub loaded : position.loaded ≡ loaded_after partial
+  pub begun : position.begun ≡ has_step partial
+  pub served : position.served ≡ served_after partial
 
--- the position is that of some front that keeps the office rules
+-- the position is that of some partial duty that keeps the office rules
 pub record IsPositionOfSome (week : Week) (open_off : ℕ) (capacity : ℕ) (position : Position) : Type 0 where
-  pub front : Front
-  pub office : KeepsOfficeThrough week open_off capacity front
-  pub position_of : IsPositionOf week front position
+  pub partial : PartialDuty
+  pub office : KeepsOfficeThrough week open_off capacity partial
+  pub position_of : IsPositionOf week partial position
 
 -- the step keeps the office rules, and this is what it comes to
-pub record IsTaken (week : Week) (open_off : ℕ) (capacity : ℕ) (before : Front) (step : Step) (taken : Taken) : Type 0 where
+pub record IsTaken (week : Week) (open_off : ℕ) (capacity : ℕ) (before : PartialDuty) (step : Step) (taken : StepEffect) : Type 0 where
   pub office : KeepsOffice week open_off capacity step before
   pub minutes : taken.minutes ≡ minutes_of week (place_after before) step.act
   pub cents : taken.cents ≡ night_of week step before + cents_of_act week (place_after before) step.act
   pub position : IsPositionOf week (step ∷ before) taken.position
 
 -- the answer is what the step comes to, or the first office test that it fails, told of the step of that number
-abbrev pub TriesStep : Week → ℕ → ℕ → ℕ → Front → Step → Result Taken DutyFault → Type 0
+abbrev pub TriesStep : Week → ℕ → ℕ → ℕ → PartialDuty → Step → Result StepEffect DutyFault → Type 0
 TriesStep week open_off capacity number before step answer =
     MatchResult answer (λ taken. IsTaken week open_off capacity before step taken)
     (λ fault. option_map (numbered number) (first_failed (tests_of_step week open_off capacity step before)) ≡ Some fault)
@@ -44,5 +44,5 @@ TriesStep week open_off capacity number before step answer =
 -- an order that the act serves has a bit of its own
 abbrev pub HasBit : Act → Type 0
 HasBit (Leg to) = Unit {0}
-HasBit (Serve order) = order < 64
+HasBit (Serve order) = order < 128
 HasBit Load = Unit {0}

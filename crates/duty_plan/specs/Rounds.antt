@@ -6,17 +6,17 @@ use Rattle.duty_plan.specs.declared.deciding.Pairs.{Pairs}
 use Rattle.duty_plan.specs.declared.pricing.Prices.{Prices}
 use Rattle.duty_plan.specs.declared.pricing.Priced.{Priced}
 use Rattle.duty_plan.specs.declared.pricing.Priced.TheVariants.{Least, NoDuty, Spent}
-use Rattle.duty_plan.specs.Fronts.{serves}
-use Rattle.duty_plan.specs.Duties.{EachOf, front_of, price_of}
+use Rattle.duty_plan.specs.PartialDuties.{serves}
+use Rattle.duty_plan.specs.Duties.{EachOf, partial_of, price_of}
 use Rattle.duty_plan.specs.Values.{price_at, IsLeast, HasNoDuty, IsDecided, lagrangian}
-use Rattle.duty_plan.specs.LabelLists.{MaySpend, MayStore}
+use Rattle.duty_plan.specs.LabelLists.{MayExhaustLabels, MayStore}
 
 -- the answer for a driver is right: a least value with a duty that has it, no duty where there is none, or Spent where
 -- a pricer of m chunks may answer so
 abbrev pub IsAnswer : ℕ → Case → Pairs → Prices → ℕ → Priced → Type 0
 IsAnswer m case pairs prices driver (Least value duty) = IsLeast case driver pairs prices value duty
 IsAnswer m case pairs prices driver NoDuty = HasNoDuty case driver pairs
-IsAnswer m case pairs prices driver (Spent stored) = MaySpend m case pairs prices × MayStore case driver pairs prices stored
+IsAnswer m case pairs prices driver (Spent stored) = MayExhaustLabels m case pairs prices × MayStore case driver pairs prices stored
 
 -- a round of a pricer of m chunks: one right answer for each driver
 pub record IsRound (m : ℕ) (case : Case) (pairs : Pairs) (prices : Prices) (answers : List Priced) : Type 0 where
@@ -69,7 +69,7 @@ values_of (answer ∷ rest) = value_of_answer answer ++ values_of rest
 
 -- the answer's duty serves the order
 abbrev pub carries : ℕ → Priced → Bool
-carries order (Least value duty) = serves order (front_of duty)
+carries order (Least value duty) = serves order (partial_of duty)
 carries order NoDuty = false
 carries order (Spent stored) = false
 
@@ -128,7 +128,7 @@ pub record IsBest (week : Week) (pairs : Pairs) (rounds : List Round) (first bes
 -- the run of a node at its pairs, from the bound `first` and the prices `before` that its parent left, with `most` rounds
 -- at most: each round is right and has the prices after the one before it, all but the last are whole, and a whole last
 -- round ends a full run, a decided node's, or one whose bound has reached the cost
-pub record IsRun (m : ℕ) (case : Case) (most : ℕ) (pairs : Pairs) (cost : ℕ) (first bound : ℕ) (before kept : Prices) (rounds : List Round) : Type 0 where
+pub record ArePricingRounds (m : ℕ) (case : Case) (most : ℕ) (pairs : Pairs) (cost : ℕ) (first bound : ℕ) (before kept : Prices) (rounds : List Round) : Type 0 where
   pub some : (1 ≤ length rounds) × (length rounds ≤ most)
   pub begins : (round : Round) → slice_get rounds 0 ≡ Some round → round.prices ≡ before
   pub moves : (k : ℕ) (round next : Round) → slice_get rounds k ≡ Some round → slice_get rounds (suc k) ≡ Some next →

@@ -11,7 +11,7 @@ use Rattle.duty_plan.specs.declared.duties.Act.{Act}
 use Rattle.duty_plan.specs.declared.duties.Act.TheVariants.{Leg, Serve, Load}
 use Rattle.duty_plan.specs.declared.duties.Step.{Step}
 use Rattle.duty_plan.specs.Acts.{mark_of, minutes_of}
-use Rattle.duty_plan.specs.Fronts.{Front, place_after, stays_well}
+use Rattle.duty_plan.specs.PartialDuties.{PartialDuty, place_after, has_lawful_length}
 
 -- a Ready stint, where the stay has a Ready minute
 abbrev pub ready_stints : ℕ → List Stint
@@ -27,8 +27,8 @@ off_stints n kind = record { mark = Off; minutes = n; kind = kind } ∷ []
 abbrev pub stay_stints : Stay → List Stint
 stay_stints stay = ready_stints stay.ready ++ off_stints stay.off stay.kind
 
--- the stints of a front, one step's after another's, the oldest first
-abbrev pub stints_of : Week → Front → List Stint
+-- the stints of a partial duty, one step's after another's, the oldest first
+abbrev pub stints_of : Week → PartialDuty → List Stint
 stints_of week [] = []
 stints_of week (step ∷ before) =
     stints_of week before ++ (stay_stints step.stay
@@ -41,11 +41,11 @@ is_known week place (Serve order) = is_some (order_of week order)
 is_known week place Load = true
 
 -- the step's stay has the lengths of its kind, and its act is known
-pub record GivesStints (week : Week) (open_off : ℕ) (step : Step) (before : Front) : Type 0 where
-  pub stay : stays_well open_off step before ≡ true
+pub record GivesStints (week : Week) (open_off : ℕ) (step : Step) (before : PartialDuty) : Type 0 where
+  pub stay : has_lawful_length open_off step before ≡ true
   pub known : is_known week (place_after before) step.act ≡ true
 
 -- each step gives its stints
-abbrev pub HasLine : Week → ℕ → Front → Type 0
+abbrev pub HasLine : Week → ℕ → PartialDuty → Type 0
 HasLine week open_off [] = Unit {0}
 HasLine week open_off (step ∷ before) = GivesStints week open_off step before × HasLine week open_off before

@@ -17,9 +17,9 @@ use Rattle.duty_plan.specs.declared.pricing.Priced.TheVariants.{Least}
 use Rattle.duty_plan.specs.Duties.{IsLawfulPlan, cost_of_plan}
 use Rattle.duty_plan.specs.Values.{ArePairsOf, cost_of_all}
 use Rattle.duty_plan.specs.LabelLists.{chunks_for}
-use Rattle.duty_plan.specs.Rounds.{Round, IsRun, is_whole, has_none, has_spent}
+use Rattle.duty_plan.specs.Rounds.{Round, ArePricingRounds, is_whole, has_none, has_spent}
 use Rattle.duty_plan.specs.Nodes.{path_of, IsNode, HasFree, IsTree}
-use Rattle.duty_plan.specs.Branching.{IsBestFirst, SeesCosts, IsPick}
+use Rattle.duty_plan.specs.Branching.{IsBestFirst, HasIncumbentCosts, IsBranchingPair}
 
 -- the prices with which a search starts: what a subcontractor takes for each order
 abbrev pub AreStartPrices : Week → Prices → Type 0
@@ -37,7 +37,7 @@ pub record HasRun (case : Case) (limits : Limits) (cost : ℕ) (tree : List Node
   pub before : Prices
   pub are_pairs : ArePairsOf case.week (path_of tree number) pairs
   pub begins : Begins case.week tree node.parent first before
-  pub run : IsRun (chunks_for limits.labels) case limits.rounds pairs cost first node.bound before node.prices rounds
+  pub run : ArePricingRounds (chunks_for limits.labels) case limits.rounds pairs cost first node.bound before node.prices rounds
 
 -- the run ended with a NoDuty
 abbrev pub EndsEmpty : List Round → Type 0
@@ -61,14 +61,14 @@ abbrev pub HasLeaf : NodeState → List Node → Type 0
 HasLeaf state tree = (k : ℕ) × (node : Node) × IsNode tree k node × (node.state ≡ state)
 
 -- a plan of one duty: it gives one driver this duty and the others the empty one, and so gives away all other orders
-pub record IsLonePlan (case : Case) (driver : ℕ) (duty : Duty) (plan : Plan) : Type 0 where
+pub record IsSingleDutyPlan (case : Case) (driver : ℕ) (duty : Duty) (plan : Plan) : Type 0 where
   pub lawful : IsLawfulPlan case plan
   pub given : slice_get plan.duties driver ≡ Some duty
   pub others : (k : ℕ) (other : Duty) → k ≢ driver → slice_get plan.duties k ≡ Some other → other.steps ≡ []
 
 -- no plan of that one duty costs less
 abbrev pub BeatsDuty : Case → ℕ → ℕ → Duty → Type 0
-BeatsDuty case cost driver duty = (plan : Plan) → IsLonePlan case driver duty plan → cost ≤ cost_of_plan case plan
+BeatsDuty case cost driver duty = (plan : Plan) → IsSingleDutyPlan case driver duty plan → cost ≤ cost_of_plan case plan
 
 -- no plan of one least duty of a whole round costs less
 abbrev pub BeatsDuties : Case → ℕ → List Round → Type 0
@@ -88,10 +88,10 @@ pub record IsRight (case : Case) (limits : Limits) (outcome : Outcome) : Type 0 
   pub runs : (k : ℕ) (node : Node) (run : List Round) → IsNode outcome.tree k node → slice_get rounds (pred k) ≡ Some run →
       HasRun case limits outcome.cost outcome.tree k node run × BeatsDuties case outcome.cost run ×
       IsState case.week outcome.cost outcome.tree k node run
-  pub seen : SeesCosts case.week outcome.cost outcome.tree
+  pub seen : HasIncumbentCosts case.week outcome.cost outcome.tree
   pub best_first : IsBestFirst case.week outcome.tree
   pub picks : (k child d o : ℕ) (run : List Round) (forcing : Node) → slice_get rounds (pred k) ≡ Some run → IsNode outcome.tree child forcing →
-      forcing.parent ≡ k → forcing.decision ≡ forces d o → IsPick case.week outcome.tree k run d o
+      forcing.parent ≡ k → forcing.decision ≡ forces d o → IsBranchingPair case.week outcome.tree k run d o
   pub open_nodes : (outcome.state ≡ OpenNodes) ↔ HasLeaf Open outcome.tree
   pub full : outcome.state ≡ OpenNodes → limits.nodes ≤ length outcome.tree + 1
   pub open_labels : (outcome.state ≡ OpenLabels) ↔ ((HasLeaf Open outcome.tree → ⊥) × HasLeaf Spent outcome.tree)

@@ -10,9 +10,9 @@ use Rattle.duty_plan.specs.declared.deciding.Pairs.{Pairs}
 use Rattle.duty_plan.specs.declared.pricing.Prices.{Prices}
 use Rattle.duty_plan.specs.declared.nodes.Decision.{Decision}
 use Rattle.duty_plan.specs.declared.nodes.Decision.TheVariants.{Root, Forced as forces, Barred as bars}
-use Rattle.duty_plan.specs.Fronts.{Front, serves}
+use Rattle.duty_plan.specs.PartialDuties.{PartialDuty, serves}
 use Rattle.duty_plan.specs.Sums.{total_below}
-use Rattle.duty_plan.specs.Duties.{EachOf, front_of, IsLawful, cost_after, orders_of, worth, price_of}
+use Rattle.duty_plan.specs.Duties.{EachOf, partial_of, IsLawful, cost_after, orders_of, worth, price_of}
 
 -- what is decided of a driver and an order; Free where there is no such cell
 abbrev pub pair_at : Pairs → ℕ → ℕ → Pair
@@ -33,38 +33,38 @@ pub record IsPrices (week : Week) (prices : Prices) : Type 0 where
   pub most : (order : ℕ) → order < length week.orders → price_at prices order ≤ price_of week order
 
 -- a duty's steps serve each order that is Forced for the driver, and none that is Barred
-pub record IsInside (week : Week) (pairs : Pairs) (driver : ℕ) (front : Front) : Type 0 where
-  pub forced : (order : ℕ) → order < length week.orders → pair_at pairs driver order ≡ Forced → serves order front ≡ true
-  pub barred : (order : ℕ) → order < length week.orders → pair_at pairs driver order ≡ Barred → serves order front ≡ false
+pub record IsInside (week : Week) (pairs : Pairs) (driver : ℕ) (partial : PartialDuty) : Type 0 where
+  pub forced : (order : ℕ) → order < length week.orders → pair_at pairs driver order ≡ Forced → serves order partial ≡ true
+  pub barred : (order : ℕ) → order < length week.orders → pair_at pairs driver order ≡ Barred → serves order partial ≡ false
 
 -- a plan is inside where each of its duties is
 abbrev pub IsPlanInside : Week → Pairs → Plan → Type 0
-IsPlanInside week pairs plan = EachOf (λ driver duty. IsInside week pairs driver (front_of duty)) plan.duties
+IsPlanInside week pairs plan = EachOf (λ driver duty. IsInside week pairs driver (partial_of duty)) plan.duties
 
 -- nothing is left Free
 abbrev pub IsDecided : Week → Pairs → Type 0
 IsDecided week pairs = (driver order : ℕ) → driver < length week.drivers → order < length week.orders →
     pair_at pairs driver order ≢ Free
 
--- the value of a front: its cost less the prices of the orders that it serves
-abbrev pub value_after : Case → ℕ → Prices → Front → ℤ
-value_after case driver prices front =
-    pos (cost_after case driver front) -ℤ pos (worth (price_at prices) (orders_of front))
+-- the value of a partial duty: its cost less the prices of the orders that it serves
+abbrev pub reduced_cost : Case → ℕ → Prices → PartialDuty → ℤ
+reduced_cost case driver prices partial =
+    pos (cost_after case driver partial) -ℤ pos (worth (price_at prices) (orders_of partial))
 
 -- a duty that the driver may be given: lawful, and inside
 pub record IsChoice (case : Case) (driver : ℕ) (pairs : Pairs) (duty : Duty) : Type 0 where
   pub lawful : IsLawful case driver duty
-  pub inside : IsInside case.week pairs driver (front_of duty)
+  pub inside : IsInside case.week pairs driver (partial_of duty)
 
 -- no lawful duty inside has a smaller value
 abbrev pub IsLowest : Case → ℕ → Pairs → Prices → ℤ → Type 0
 IsLowest case driver pairs prices value =
-    (duty : Duty) → IsChoice case driver pairs duty → value ≤ℤ value_after case driver prices (front_of duty)
+    (duty : Duty) → IsChoice case driver pairs duty → value ≤ℤ reduced_cost case driver prices (partial_of duty)
 
 -- the duty is lawful and inside, this is its value, and no such duty has a smaller one
 pub record IsLeast (case : Case) (driver : ℕ) (pairs : Pairs) (prices : Prices) (value : ℤ) (duty : Duty) : Type 0 where
   pub choice : IsChoice case driver pairs duty
-  pub has_value : value_after case driver prices (front_of duty) ≡ value
+  pub has_value : reduced_cost case driver prices (partial_of duty) ≡ value
   pub lowest : IsLowest case driver pairs prices value
 
 -- this is the driver's least value
@@ -105,8 +105,8 @@ abbrev pub barred_for_all : Week → Pairs → ℕ → Bool
 barred_for_all week pairs order = all_below (λ driver. is_barred (pair_at pairs driver order)) (length week.drivers)
 
 -- what an order adds to the Lagrangian value: its price, or what a subcontractor takes where no driver may serve it
-abbrev pub charge : Week → Pairs → Prices → ℕ → ℕ
-charge week pairs prices order =
+abbrev pub lagrangian_term : Week → Pairs → Prices → ℕ → ℕ
+lagrangian_term week pairs prices order =
     if barred_for_all week pairs order then price_of week order else price_at prices order
 
 -- the larger of 0 and a number
@@ -114,10 +114,10 @@ abbrev pub or_zero : ℤ → ℕ
 or_zero (pos n) = n
 or_zero (negsuc n) = 0
 
--- the Lagrangian value, of the drivers' least values: all orders' charges and these values, but never less than 0
+-- the Lagrangian value, of the drivers' least values: all orders' Lagrangian terms and these values, but never less than 0
 abbrev pub lagrangian : Week → Pairs → Prices → List ℤ → ℕ
 lagrangian week pairs prices least =
-    or_zero (pos (total_below (charge week pairs prices) (length week.orders)) +ℤ sum_of least)
+    or_zero (pos (total_below (lagrangian_term week pairs prices) (length week.orders)) +ℤ sum_of least)
 
 -- the driver and the order are these two
 abbrev pub is_pair : ℕ → ℕ → ℕ → ℕ → Bool

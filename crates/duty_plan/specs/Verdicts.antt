@@ -11,8 +11,8 @@ use Rattle.duty_plan.specs.declared.faults.DutyFault.TheVariants.{Road, Stay, Aw
 use Rattle.duty_plan.specs.declared.faults.PlanFault.{PlanFault}
 use Rattle.duty_plan.specs.declared.plans.Plan.{Plan}
 use Rattle.duty_plan.specs.declared.faults.PlanFault.TheVariants.{Duties, Duty as duty_fails, Twice as in_two_places, Lost}
-use Rattle.duty_plan.specs.Fronts.{Front, on_road, stays_well, rests_home, on_grid, in_week, in_window, in_capacity, serves_anew, place_after, line_after}
-use Rattle.duty_plan.specs.Duties.{front_of, past_at, open_off_at, capacity_at, cost_after, cost_of_plan, places_of}
+use Rattle.duty_plan.specs.PartialDuties.{PartialDuty, follows_road, has_lawful_length, rests_home, keeps_grid, ends_in_week, is_in_window, keeps_capacity, serves_anew, place_after, line_after}
+use Rattle.duty_plan.specs.Duties.{partial_of, past_at, open_off_at, capacity_at, cost_after, cost_of_plan, times_placed}
 
 -- a test, and what its failing says
 pub record Test : Type 0 where
@@ -25,15 +25,15 @@ first_failed [] = None
 first_failed (test ∷ rest) = if test.passes then first_failed rest else Some test.fault
 
 -- the tests of a step, in the order in which they are tried
-abbrev pub tests_of_step : Week → ℕ → ℕ → Step → Front → List Test
+abbrev pub tests_of_step : Week → ℕ → ℕ → Step → PartialDuty → List Test
 tests_of_step week open_off capacity step before =
-    record { passes = on_road week step before; fault = Road (length before) }
-    ∷ record { passes = stays_well open_off step before; fault = Stay (length before) }
+    record { passes = follows_road week step before; fault = Road (length before) }
+    ∷ record { passes = has_lawful_length open_off step before; fault = Stay (length before) }
     ∷ record { passes = rests_home step before; fault = Away (length before) }
-    ∷ record { passes = on_grid week step before; fault = Grid (length before) }
-    ∷ record { passes = in_week week step before; fault = Late (length before) }
-    ∷ record { passes = in_window week step before; fault = Window (length before) }
-    ∷ record { passes = in_capacity week capacity step before; fault = Load (length before) }
+    ∷ record { passes = keeps_grid week step before; fault = Grid (length before) }
+    ∷ record { passes = ends_in_week week step before; fault = Late (length before) }
+    ∷ record { passes = is_in_window week step before; fault = Window (length before) }
+    ∷ record { passes = keeps_capacity week capacity step before; fault = Load (length before) }
     ∷ record { passes = serves_anew step before; fault = Twice (length before) }
     ∷ []
 
@@ -55,8 +55,8 @@ abbrev pub earlier_or : Option DutyFault → Option DutyFault → Option DutyFau
 earlier_or (Some found) later = Some found
 earlier_or None later = later
 
--- the first step of a front that fails a test, by the first test that it fails
-abbrev pub office_fault : Week → ℕ → ℕ → Front → Option DutyFault
+-- the first step of a partial duty that fails a test, by the first test that it fails
+abbrev pub office_fault : Week → ℕ → ℕ → PartialDuty → Option DutyFault
 office_fault week open_off capacity [] = None
 office_fault week open_off capacity (step ∷ before) =
     earlier_or (office_fault week open_off capacity before) (first_failed (tests_of_step week open_off capacity step before))
@@ -71,9 +71,9 @@ verdict_after None true None cost = Ok cost
 -- what the judge of a duty finds: its cost, or its first fault
 abbrev pub duty_verdict : Case → ℕ → Duty → Result ℕ DutyFault
 duty_verdict case driver duty =
-    verdict_after (office_fault case.week (open_off_at case driver) (capacity_at case driver) (front_of duty))
-    (place_after (front_of duty) == 0) (fault (past_at case driver) (line_after case.week (front_of duty)))
-    (cost_after case driver (front_of duty))
+    verdict_after (office_fault case.week (open_off_at case driver) (capacity_at case driver) (partial_of duty))
+    (place_after (partial_of duty) == 0) (fault (past_at case driver) (line_after case.week (partial_of duty)))
+    (cost_after case driver (partial_of duty))
 
 -- a driver's verdict, and what comes later where it is a cost
 abbrev pub after_verdict : ℕ → Result ℕ DutyFault → Option PlanFault → Option PlanFault
@@ -103,11 +103,11 @@ plan_answer None None None cost = Ok cost
 
 -- the least order in two places or more
 abbrev pub first_twice : Week → Plan → Option ℕ
-first_twice week plan = least_below (λ order. nat_le 2 (places_of plan order)) (length week.orders)
+first_twice week plan = least_below (λ order. nat_le 2 (times_placed plan order)) (length week.orders)
 
 -- the least order in no place
 abbrev pub first_lost : Week → Plan → Option ℕ
-first_lost week plan = least_below (λ order. places_of plan order == 0) (length week.orders)
+first_lost week plan = least_below (λ order. times_placed plan order == 0) (length week.orders)
 
 -- what the judge of a plan finds: its cost, or its first fault
 abbrev pub plan_verdict : Case → Plan → Result ℕ PlanFault

@@ -1,14 +1,34 @@
 // The judges of a duty and of a plan.
-ghost use Rattle.std.specs.Prelude.{◌≡◌, ◌<◌, ◌≤◌, ◌^◌, ◌↔◌, IsOk, IfOk, length};
-ghost use Rattle.duty_plan.specs.Duties.{EachOf, IsCase, IsLawful, IsLawfulPlan, front_of, cost_after, cost_of_plan};
+ghost use Rattle.std.specs.Prelude.{◌≡◌, ◌<◌, ◌≤◌, ◌^◌, ◌↔◌, IsOk, IfOk, length, reverse};
+ghost use Rattle.duty_plan.specs.Duties.{EachOf, IsCase, IsLawful, IsLawfulPlan, partial_of, cost_after, cost_of_plan};
 ghost use Rattle.duty_plan.specs.Verdicts.{duty_verdict, plan_verdict};
-ghost use Rattle.duty_plan.specs.Walks.{AnswersDuties};
+ghost use Rattle.duty_plan.specs.DutyChecks.{AnswersDuties};
 
-use crate::duties::Duty;
+use crate::duties::{Duty, Step};
+use crate::duty_checks::DutyCheck;
 use crate::faults::{DutyFault, PlanFault};
 use crate::orders::{lost, price_of_all, twice};
 use crate::plans::{Case, Plan};
-use crate::walks::Walk;
+
+/// As `check_duty`, of a driver's steps, from the first on.
+pub fn check_steps(case: &Case, driver: u32, steps: &[Step]) -> Result<u64, DutyFault>
+    requires case { IsCase case.now }
+    requires driver { driver < length case.now.week.drivers }
+    ensures verdict { result ≡ duty_verdict case.now driver (record { steps = steps.now }) }
+    ensures lawful { IsOk result ↔ IsLawful case.now driver (record { steps = steps.now }) }
+    ensures cost { IfOk result (λ cents. cents ≡ cost_after case.now driver (reverse steps.now)) }
+{
+    let history = &case.past.as_slice()[driver as usize];
+    let lorry = &case.week.drivers.as_slice()[driver as usize];
+    let mut check = DutyCheck::begin(history);
+    for step in steps {
+        match check.after(&case.week, lorry, history, step) {
+            Ok(next) => check = next,
+            Err(fault) => return Err(fault),
+        }
+    }
+    check.end(lorry.fee)
+}
 
 /// The cost of a driver's duty, in cents, where it is lawful: the driver's fee, its legs, and a night for each daily rest
 /// away from the depot; 0 where it has no step. Else its first fault.
@@ -20,18 +40,9 @@ pub fn check_duty(case: &Case, driver: u32, duty: &Duty) -> Result<u64, DutyFaul
     requires driver { driver < length case.now.week.drivers }
     ensures verdict { result ≡ duty_verdict case.now driver duty.now }
     ensures lawful { IsOk result ↔ IsLawful case.now driver duty.now }
-    ensures cost { IfOk result (λ cents. cents ≡ cost_after case.now driver (front_of duty.now)) }
+    ensures cost { IfOk result (λ cents. cents ≡ cost_after case.now driver (partial_of duty.now)) }
 {
-    let history = &case.past.as_slice()[driver as usize];
-    let lorry = &case.week.drivers.as_slice()[driver as usize];
-    let mut walk = Walk::begin(history);
-    for step in duty.steps.as_slice() {
-        match walk.after(&case.week, lorry, history, step) {
-            Ok(next) => walk = next,
-            Err(fault) => return Err(fault),
-        }
-    }
-    walk.end(lorry.fee)
+    check_steps(case, driver, duty.steps.as_slice())
 }
 
 /// The cost of the duties, where each is lawful for the driver of its number.

@@ -1,5 +1,9 @@
 // What is decided of drivers and orders.
+ghost use Rattle.std.specs.Prelude.{◌≡◌, ◌<◌, length};
+ghost use Rattle.week_book.specs.Weeks.{IsWeek};
+
 use minute_line::Many;
+use week_book::Week;
 
 /// What is decided of a driver and an order.
 #[derive(Clone, Copy, PartialEq, Eq, Debug)]
@@ -19,4 +23,22 @@ pub struct Pairs {
     pub orders: u32,
     /// One cell for each driver and order: the first driver's orders, then the second's, and so on.
     pub cells: Many<Pair>,
+}
+
+impl Pairs {
+    ghost use Rattle.duty_plan.specs.Values.{IsPairs, pair_at};
+
+    /// What is decided of a driver and an order of the week.
+    pub fn pair(&self, week: &Week, driver: u32, order: u32) -> Pair
+        requires week { IsWeek week.now }
+        requires pairs { IsPairs week.now self.now }
+        requires driver { driver < length week.now.drivers }
+        requires order { order < length week.now.orders }
+        ensures { result ≡ pair_at self.now driver order }
+    {
+        match self.cells.get((driver * self.orders + order) as usize) {
+            Some(pair) => *pair,
+            None => Pair::Free,
+        }
+    }
 }

@@ -12,7 +12,7 @@ pub struct Label {
     /// Where the driver is.
     pub place: u32,
     /// The orders that the steps serve: order n is the bit n.
-    pub served: u64,
+    pub served: u128,
     /// The load served since the last load act, in kg.
     pub used: u32,
     /// Whether there is a load act.
@@ -23,5 +23,5 @@ pub struct Label {
     pub value: i64,
 }
 
-// Many labels are stored: each takes at most 104 bytes.
-const _: () = prove!(size_of::<Label>() <= 104);
+// Many labels are stored: each takes at most 128 bytes.
+const _: () = prove!(size_of::<Label>() <= 128);

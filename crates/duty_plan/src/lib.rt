@@ -6,6 +6,9 @@
 mod checks;
 mod deciding;
 mod duties;
+mod duty_checks;
+#[cfg(test)]
+mod duty_tests;
 mod faults;
 mod labels;
 mod laws;
@@ -24,21 +27,23 @@ mod pricing;
 mod tests;
 #[cfg(test)]
 mod trip_tests;
-mod walks;
 
-pub use checks::{check_duty, check_plan};
+pub use checks::{check_duty, check_plan, check_steps};
 pub use deciding::{Pair, Pairs};
 pub use duties::{Act, Duty, Step};
 pub use faults::{DutyFault, PlanFault};
 pub use labels::Label;
 pub use laws::{
-    each_order_once, list_alone, never_overloaded, no_repeat, one_label, rest_is_free, served_bits,
-    stints_are_minutes, test_bits,
+    completions_are_bounded, each_order_once, least_values_are_small, list_alone,
+    lists_stay_in_reach, never_overloaded, no_repeat, one_label, rest_is_free, served_bits,
+    shared_rounds_are_rounds, spent_seats_are_licensed, stints_are_minutes, test_bits,
+    twins_are_alike, twins_share_label_lists,
 };
 pub use lines::line_of;
 pub use nodes::{Decision, Node, NodeState};
+pub use orders::serves;
 pub use outcomes::{Limits, Outcome, State};
 pub use planning::{Planner, Pricer};
 pub use plans::{Case, Plan};
-pub use positions::{Position, Taken};
+pub use positions::{Position, StepEffect};
 pub use pricing::{Priced, Prices};

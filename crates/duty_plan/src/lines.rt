@@ -1,6 +1,6 @@
 // The line that a duty's steps give.
 ghost use Rattle.std.specs.Prelude.{◌≡◌, ◌<◌, ◌++◌, IfOk, OnOk, length};
-ghost use Rattle.duty_plan.specs.Duties.{IsCase, front_of, open_off_at};
+ghost use Rattle.duty_plan.specs.Duties.{IsCase, partial_of, open_off_at};
 ghost use Rattle.duty_plan.specs.Stints.{stay_stints, stints_of, HasLine};
 
 use crate::duties::Duty;
@@ -40,8 +40,8 @@ fn push_stay(stints: &mut Many<Stint>, stay: &Stay) -> Result<(), Memory>
 pub fn line_of(alloc: Global, case: &Case, driver: u32, duty: &Duty) -> Result<Line, Memory>
     requires case { IsCase case.now }
     requires driver { driver < length case.now.week.drivers }
-    requires steps { HasLine case.now.week (open_off_at case.now driver) (front_of duty.now) }
-    ensures { IfOk result (λ line. line.stints ≡ stints_of case.now.week (front_of duty.now)) }
+    requires steps { HasLine case.now.week (open_off_at case.now driver) (partial_of duty.now) }
+    ensures { IfOk result (λ line. line.stints ≡ stints_of case.now.week (partial_of duty.now)) }
 {
     let mut stints = Many::new(alloc);
     let mut place = 0;

@@ -3,7 +3,7 @@ ghost use Rattle.std.specs.Prelude.{◌≡◌, ◌||◌, ◌==◌, ◌&&◌, ◌
 ghost use Rattle.minute_line.specs.Marks.{is_rest, is_daily};
 ghost use Rattle.week_book.specs.Weeks.{IsWeek};
 ghost use Rattle.duty_plan.specs.Acts.{minutes_of, cents_of_act, can_be_done, may_start, used_by, loaded_by, place_by};
-ghost use Rattle.duty_plan.specs.Fronts.{Front, is_plain_length, has_lengths, may_carry, is_new};
+ghost use Rattle.duty_plan.specs.PartialDuties.{PartialDuty, is_plain_length, has_lengths, may_carry, is_new};
 ghost use Rattle.duty_plan.specs.Labels.{bit_of_act, served_after};
 ghost use Rattle.duty_plan.specs.Positions.{HasBit};
 
@@ -14,30 +14,30 @@ use week_book::{Week, leg};
 
 /// What an act comes to that can be done.
 #[derive(Clone, Copy)]
-pub(crate) struct Deed {
+pub(crate) struct ActEffect {
     pub(crate) minutes: u32,
     pub(crate) cents: u64,
 }
 
 /// What the act comes to, or None where it can't be done at the place.
-pub(crate) fn deed_of(week: &Week, place: u32, act: Act) -> Option<Deed>
+pub(crate) fn effect_of(week: &Week, place: u32, act: Act) -> Option<ActEffect>
     ensures road { is_some result ≡ can_be_done week.now place act }
-    ensures minutes { IfSome result (λ deed. deed.minutes ≡ minutes_of week.now place act) }
-    ensures cents { IfSome result (λ deed. deed.cents ≡ cents_of_act week.now place act) }
+    ensures minutes { IfSome result (λ effect. effect.minutes ≡ minutes_of week.now place act) }
+    ensures cents { IfSome result (λ effect. effect.cents ≡ cents_of_act week.now place act) }
 {
     match act {
-        Act::Leg(to) => leg(week, place, to).map(|leg| Deed {
+        Act::Leg(to) => leg(week, place, to).map(|leg| ActEffect {
             minutes: leg.minutes,
             cents: leg.cents,
         }),
         Act::Serve(order) => match week.orders.get(order as usize) {
-            Some(order) if order.place == place => Some(Deed {
+            Some(order) if order.place == place => Some(ActEffect {
                 minutes: order.service,
                 cents: 0,
             }),
             _ => None,
         },
-        Act::Load if place == 0 => Some(Deed {
+        Act::Load if place == 0 => Some(ActEffect {
             minutes: week.load,
             cents: 0,
         }),
@@ -159,7 +159,7 @@ pub(crate) fn loaded_after(act: Act, loaded: bool) -> bool
 }
 
 /// The bits of the orders served, after one more act.
-pub(crate) fn with_bit(act: Act, served: u64) -> u64
+pub(crate) fn with_bit(act: Act, served: u128) -> u128
     requires { HasBit act }
     ensures { result ≡ bit_or served (bit_of_act act) }
 {
@@ -182,9 +182,9 @@ pub(crate) fn carries(week: &Week, capacity: u32, loaded: bool, used: u32, act: 
 }
 
 /// Whether the act serves no order that was served before.
-pub(crate) fn serves_anew(served: u64, act: Act) -> bool
+pub(crate) fn serves_anew(served: u128, act: Act) -> bool
     requires { HasBit act }
-    ensures { (before : Front) → served ≡ served_after before → result ≡ is_new act before }
+    ensures { (before : PartialDuty) → served ≡ served_after before → result ≡ is_new act before }
 {
     match act {
         Act::Serve(order) => (served >> order) & 1 == 0,

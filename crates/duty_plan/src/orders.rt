@@ -1,13 +1,13 @@
 // How often an order stands in a plan.
-ghost use Rattle.std.specs.Prelude.{◌≡◌, ℕ, ◌<◌, ◌≤◌, length};
+ghost use Rattle.std.specs.Prelude.{◌≡◌, ℕ, ◌<◌, ◌≤◌, length, reverse};
 ghost use Rattle.week_book.specs.Weeks.{IsWeek};
 ghost use Rattle.duty_plan.specs.Acts.{serves_order};
-ghost use Rattle.duty_plan.specs.Fronts.{serves};
-ghost use Rattle.duty_plan.specs.Duties.{EachOf, carried, front_of, places_of, price_of, times, worth};
+ghost use Rattle.duty_plan.specs.PartialDuties.{serves};
+ghost use Rattle.duty_plan.specs.Duties.{EachOf, carried, times_placed, price_of, times, worth};
 ghost use Rattle.duty_plan.specs.Verdicts.{first_twice, first_lost};
-ghost use Rattle.duty_plan.specs.Walks.{ServesOnce};
+ghost use Rattle.duty_plan.specs.DutyChecks.{ServesOnce};
 
-use crate::duties::{Act, Duty};
+use crate::duties::{Act, Duty, Step};
 use crate::plans::Plan;
 use week_book::Week;
 
@@ -21,11 +21,11 @@ fn is_service(act: Act, order: u32) -> bool
     }
 }
 
-/// Whether a step of the duty serves the order.
-fn serves_in(duty: &Duty, order: u32) -> bool
-    ensures { result ≡ serves order (front_of duty.now) }
+/// Whether a step serves the order.
+pub fn serves(steps: &[Step], order: u32) -> bool
+    ensures { result ≡ serves order (reverse steps.now) }
 {
-    for step in duty.steps.as_slice() {
+    for step in steps {
         if is_service(step.act, order) {
             return true;
         }
@@ -42,7 +42,7 @@ fn times_served(duties: &[Duty], order: u32) -> u64
 {
     let mut count = 0;
     for duty in duties {
-        count += u64::from(serves_in(duty, order));
+        count += u64::from(serves(duty.steps.as_slice(), order));
     }
     count
 }
@@ -63,7 +63,7 @@ fn times_out(out: &[u32], order: u32) -> u64
 fn places(plan: &Plan, order: u32) -> u64
     requires few { length plan.now.duties ≤ 16 }
     requires once { EachOf ServesOnce plan.now.duties }
-    ensures { result ≡ places_of plan.now order }
+    ensures { result ≡ times_placed plan.now order }
 {
     times_served(plan.duties.as_slice(), order) + times_out(plan.out.as_slice(), order)
 }
@@ -113,9 +113,9 @@ fn price(week: &Week, order: u32) -> u64
 /// What subcontractors take for the orders that are given away.
 pub(crate) fn price_of_all(week: &Week, out: &[u32]) -> u64
     requires week { IsWeek week.now }
-    requires few { length out.now ≤ 40 }
+    requires few { length out.now ≤ 120 }
     ensures worth { result ≡ worth (price_of week.now) out.now }
-    ensures bound { result ≤ 4000000000 }
+    ensures bound { result ≤ 12000000000 }
 {
     let mut cents = 0;
     for order in out {

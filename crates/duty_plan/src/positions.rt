@@ -1,14 +1,14 @@
 // Where steps leave a driver, and the office rules at one step more: the judge of a duty and a pricing try the same tests.
 ghost use Rattle.std.specs.Prelude.{◌≡◌, ◌≤◌, ◌∷◌, [], true, option_map};
 ghost use Rattle.week_book.specs.Weeks.{IsWeek, IsDriver};
-ghost use Rattle.duty_plan.specs.Fronts.{Front, KeepsOfficeThrough, at_after, on_road};
+ghost use Rattle.duty_plan.specs.PartialDuties.{PartialDuty, KeepsOfficeThrough, at_after, follows_road};
 ghost use Rattle.duty_plan.specs.Verdicts.{first_failed, numbered, tests_of_step};
 ghost use Rattle.duty_plan.specs.Positions.{HasBit, IsPositionOf, IsPositionOfSome, TriesStep};
 
 use crate::duties::Step;
 use crate::faults::DutyFault;
 use crate::office::{
-    act_start, carries, deed_of, grid, lengths, loaded_after, night, place_after, serves_anew,
+    act_start, carries, effect_of, grid, lengths, loaded_after, night, place_after, serves_anew,
     used_after, window, with_bit,
 };
 use week_book::{Driver, Week};
@@ -30,12 +30,12 @@ pub struct Position {
     /// Whether there is a step.
     pub begun: bool,
     /// The orders that they serve: order n is the bit n.
-    pub served: u64,
+    pub served: u128,
 }
 
 /// What a step comes to that keeps the office rules.
 #[derive(Clone, Copy, PartialEq, Eq, Debug)]
-pub struct Taken {
+pub struct StepEffect {
     /// The minutes of its act.
     pub minutes: u32,
     /// What its act costs, and its night away from the depot, in cents.
@@ -72,7 +72,7 @@ impl Position {
         requires week { IsWeek week.now }
         requires used { self.now.used ≤ 100000 }
         requires bit { HasBit step.now.act }
-        ensures { (before : Front) → IsPositionOf week.now before self.now → on_road week.now step.now before ≡ true →
+        ensures { (before : PartialDuty) → IsPositionOf week.now before self.now → follows_road week.now step.now before ≡ true →
             end ≡ at_after week.now (step.now ∷ before) →
             result ≡ option_map (numbered number) (first_failed (tests_of_step week.now open_off lorry.now.capacity step.now before)) }
     {
@@ -113,23 +113,23 @@ impl Position {
         open_off: u32,
         number: u32,
         step: &Step,
-    ) -> Result<Taken, DutyFault>
+    ) -> Result<StepEffect, DutyFault>
         requires week { IsWeek week.now }
         requires lorry { IsDriver lorry.now }
         requires position { IsPositionOfSome week.now open_off lorry.now.capacity self.now }
-        ensures { (before : Front) → KeepsOfficeThrough week.now open_off lorry.now.capacity before → IsPositionOf week.now before self.now →
+        ensures { (before : PartialDuty) → KeepsOfficeThrough week.now open_off lorry.now.capacity before → IsPositionOf week.now before self.now →
             TriesStep week.now open_off lorry.now.capacity number before step.now result }
     {
-        let Some(deed) = deed_of(week, self.place, step.act) else {
+        let Some(effect) = effect_of(week, self.place, step.act) else {
             return Err(DutyFault::Road(number));
         };
-        let end = act_start(self.at, &step.stay) + u64::from(deed.minutes);
+        let end = act_start(self.at, &step.stay) + u64::from(effect.minutes);
         if let Some(fault) = self.fault(week, lorry, open_off, number, step, end) {
             return Err(fault);
         }
-        Ok(Taken {
-            minutes: deed.minutes,
-            cents: night(week, self.place, &step.stay) + deed.cents,
+        Ok(StepEffect {
+            minutes: effect.minutes,
+            cents: night(week, self.place, &step.stay) + effect.cents,
             position: Position {
                 at: end as u32,
                 place: place_after(step.act, self.place),

@@ -4,11 +4,11 @@
 ghost use Rattle.std.specs.Prelude.{◌≡◌, ◌<◌, IsTrue, IfOk, All, true, false, [], ◌∷◌, length, map, pos, negsuc};
 ghost use Rattle.week_book.specs.declared.weeks.Week.{Week};
 ghost use Rattle.week_book.specs.Weeks.{AreNames, IsOrder, order_of};
-ghost use Rattle.duty_plan.specs.Fronts.{Front, at_after, serves};
-ghost use Rattle.duty_plan.specs.Duties.{EachOf, IsCase, front_of, price_of};
-ghost use Rattle.duty_plan.specs.Values.{IsLeast, lagrangian, value_after};
+ghost use Rattle.duty_plan.specs.PartialDuties.{PartialDuty, at_after, serves};
+ghost use Rattle.duty_plan.specs.Duties.{EachOf, IsCase, partial_of, price_of};
+ghost use Rattle.duty_plan.specs.Values.{IsLeast, lagrangian, reduced_cost};
 ghost use Rattle.duty_plan.specs.Labels.{closes_of, is_listed, opens_of};
-ghost use Rattle.duty_plan.specs.LabelLists.{hope};
+ghost use Rattle.duty_plan.specs.LabelLists.{completion_bound};
 
 use crate::tests::{case_of, duty, orders, stay, step};
 use crate::{Act, Case, Duty, Pair, check_duty};
@@ -55,32 +55,32 @@ fn barred_by_hand()
 /// After the load, at minute 420, the order's service waits until it opens at 480: 60 minutes, or what a break leaves of them.
 /// Before a leg nobody waits, nor before a daily or weekly rest.
 fn listed_by_hand()
-    ensures waits { (week : Week) (front : Front) → opens_of (order_of week 0) ≡ 480 → at_after week front ≡ 420 →
-        is_listed week (record { stay = record { ready = 60; off = 0; kind = Kind.Plain }; act = Act.Serve 0 }) front ≡ true }
-    ensures breaks { (week : Week) (front : Front) → opens_of (order_of week 0) ≡ 480 → at_after week front ≡ 420 →
-        is_listed week (record { stay = record { ready = 15; off = 45; kind = Kind.Plain }; act = Act.Serve 0 }) front ≡ true }
-    ensures no_longer { (week : Week) (front : Front) → opens_of (order_of week 0) ≡ 480 → at_after week front ≡ 420 →
-        is_listed week (record { stay = record { ready = 61; off = 0; kind = Kind.Plain }; act = Act.Serve 0 }) front ≡ false }
-    ensures late { (week : Week) (front : Front) → opens_of (order_of week 0) ≡ 480 → at_after week front ≡ 500 →
-        is_listed week (record { stay = record { ready = 0; off = 0; kind = Kind.Plain }; act = Act.Serve 0 }) front ≡ true }
-    ensures drives { (week : Week) (front : Front) →
-        is_listed week (record { stay = record { ready = 1; off = 0; kind = Kind.Plain }; act = Act.Leg 1 }) front ≡ false }
-    ensures rests { (week : Week) (front : Front) →
-        is_listed week (record { stay = record { ready = 1; off = 660; kind = Kind.Daily }; act = Act.Serve 0 }) front ≡ false }
+    ensures waits { (week : Week) (partial : PartialDuty) → opens_of (order_of week 0) ≡ 480 → at_after week partial ≡ 420 →
+        is_listed week (record { stay = record { ready = 60; off = 0; kind = Kind.Plain }; act = Act.Serve 0 }) partial ≡ true }
+    ensures breaks { (week : Week) (partial : PartialDuty) → opens_of (order_of week 0) ≡ 480 → at_after week partial ≡ 420 →
+        is_listed week (record { stay = record { ready = 15; off = 45; kind = Kind.Plain }; act = Act.Serve 0 }) partial ≡ true }
+    ensures no_longer { (week : Week) (partial : PartialDuty) → opens_of (order_of week 0) ≡ 480 → at_after week partial ≡ 420 →
+        is_listed week (record { stay = record { ready = 61; off = 0; kind = Kind.Plain }; act = Act.Serve 0 }) partial ≡ false }
+    ensures late { (week : Week) (partial : PartialDuty) → opens_of (order_of week 0) ≡ 480 → at_after week partial ≡ 500 →
+        is_listed week (record { stay = record { ready = 0; off = 0; kind = Kind.Plain }; act = Act.Serve 0 }) partial ≡ true }
+    ensures drives { (week : Week) (partial : PartialDuty) →
+        is_listed week (record { stay = record { ready = 1; off = 0; kind = Kind.Plain }; act = Act.Leg 1 }) partial ≡ false }
+    ensures rests { (week : Week) (partial : PartialDuty) →
+        is_listed week (record { stay = record { ready = 1; off = 660; kind = Kind.Daily }; act = Act.Serve 0 }) partial ≡ false }
 {}
 
 /// After the load the driver may still hope for order A: 2,000 - 9,000 = -7,000 cents, until its window closes at 720; and for
 /// nothing where the order is Barred.
-fn hope_by_hand()
-    ensures open { (case : Case) (front : Front) → length case.week.orders ≡ 1 → closes_of (order_of case.week 0) ≡ 720 → serves 0 front ≡ false →
-        at_after case.week front ≡ 720 → value_after case 0 (record { cents = 9000 ∷ [] }) front ≡ pos 2000 →
-        hope case 0 (record { orders = 1; cells = Pair.Free ∷ [] }) (record { cents = 9000 ∷ [] }) front ≡ negsuc 6999 }
-    ensures closed { (case : Case) (front : Front) → length case.week.orders ≡ 1 → closes_of (order_of case.week 0) ≡ 720 → serves 0 front ≡ false →
-        at_after case.week front ≡ 721 → value_after case 0 (record { cents = 9000 ∷ [] }) front ≡ pos 2000 →
-        hope case 0 (record { orders = 1; cells = Pair.Free ∷ [] }) (record { cents = 9000 ∷ [] }) front ≡ pos 2000 }
-    ensures barred { (case : Case) (front : Front) → length case.week.orders ≡ 1 → serves 0 front ≡ false →
-        value_after case 0 (record { cents = 9000 ∷ [] }) front ≡ pos 2000 →
-        hope case 0 (record { orders = 1; cells = Pair.Barred ∷ [] }) (record { cents = 9000 ∷ [] }) front ≡ pos 2000 }
+fn completion_bound_by_hand()
+    ensures open { (case : Case) (partial : PartialDuty) → length case.week.orders ≡ 1 → closes_of (order_of case.week 0) ≡ 720 → serves 0 partial ≡ false →
+        at_after case.week partial ≡ 720 → reduced_cost case 0 (record { cents = 9000 ∷ [] }) partial ≡ pos 2000 →
+        completion_bound case 0 (record { orders = 1; cells = Pair.Free ∷ [] }) (record { cents = 9000 ∷ [] }) partial ≡ negsuc 6999 }
+    ensures closed { (case : Case) (partial : PartialDuty) → length case.week.orders ≡ 1 → closes_of (order_of case.week 0) ≡ 720 → serves 0 partial ≡ false →
+        at_after case.week partial ≡ 721 → reduced_cost case 0 (record { cents = 9000 ∷ [] }) partial ≡ pos 2000 →
+        completion_bound case 0 (record { orders = 1; cells = Pair.Free ∷ [] }) (record { cents = 9000 ∷ [] }) partial ≡ pos 2000 }
+    ensures barred { (case : Case) (partial : PartialDuty) → length case.week.orders ≡ 1 → serves 0 partial ≡ false →
+        reduced_cost case 0 (record { cents = 9000 ∷ [] }) partial ≡ pos 2000 →
+        completion_bound case 0 (record { orders = 1; cells = Pair.Barred ∷ [] }) (record { cents = 9000 ∷ [] }) partial ≡ pos 2000 }
 {}
 
 /// Whether the duty is lawful for 8,000 cents. With order A it is then the driver's least duty, worth -1,000 cents, where the
@@ -92,7 +92,7 @@ fn is_least_with_one(case: &Case, duty: &Duty) -> bool
     requires fee { EachOf (λ n driver. driver.fee ≡ 2000) case.now.week.drivers }
     requires order { length case.now.week.orders ≡ 1 }
     requires orders { EachOf (λ n order. order.place ≡ 1) case.now.week.orders }
-    requires serves { serves 0 (front_of duty.now) ≡ true }
+    requires serves { serves 0 (partial_of duty.now) ≡ true }
     ensures free { IsTrue result → IsLeast case.now 0 (record { orders = 1; cells = Pair.Free ∷ [] }) (record { cents = 9000 ∷ [] }) (negsuc 999) duty.now }
     ensures forced { IsTrue result → IsLeast case.now 0 (record { orders = 1; cells = Pair.Forced ∷ [] }) (record { cents = 9000 ∷ [] }) (negsuc 999) duty.now }
     ensures bound { lagrangian case.now.week (record { orders = 1; cells = Pair.Free ∷ [] }) (record { cents = 9000 ∷ [] }) (negsuc 999 ∷ []) ≡ 8000 }
@@ -112,8 +112,8 @@ fn is_least_with_two(case: &Case, duty: &Duty) -> bool
     requires fee { EachOf (λ n driver. driver.fee ≡ 2000) case.now.week.drivers }
     requires order { length case.now.week.orders ≡ 2 }
     requires orders { EachOf (λ n order. order.place ≡ 1) case.now.week.orders }
-    requires serves_a { serves 0 (front_of duty.now) ≡ true }
-    requires serves_b { serves 1 (front_of duty.now) ≡ true }
+    requires serves_a { serves 0 (partial_of duty.now) ≡ true }
+    requires serves_b { serves 1 (partial_of duty.now) ≡ true }
     ensures free { IsTrue result → IsLeast case.now 0 (record { orders = 2; cells = Pair.Free ∷ Pair.Free ∷ [] }) (record { cents = 9000 ∷ 4500 ∷ [] }) (negsuc 5499) duty.now }
     ensures bound { lagrangian case.now.week (record { orders = 2; cells = Pair.Free ∷ Pair.Free ∷ [] }) (record { cents = 9000 ∷ 4500 ∷ [] }) (negsuc 5499 ∷ []) ≡ 8000 }
 {
@@ -125,7 +125,7 @@ fn is_least_with_two(case: &Case, duty: &Duty) -> bool
 
 /// The trip with order A: loaded from minute 405 on, and served at 480.
 fn trip_with_one(alloc: Global) -> Result<Duty, Memory>
-    ensures { IfOk result (λ duty. serves 0 (front_of duty) ≡ true) }
+    ensures { IfOk result (λ duty. serves 0 (partial_of duty) ≡ true) }
 {
     let none = stay(0, 0, Kind::Plain);
     let steps = [
@@ -139,7 +139,7 @@ fn trip_with_one(alloc: Global) -> Result<Duty, Memory>
 
 /// The trip with orders A and B.
 fn trip_with_two(alloc: Global) -> Result<Duty, Memory>
-    ensures { IfOk result (λ duty. (serves 0 (front_of duty) ≡ true) × (serves 1 (front_of duty) ≡ true)) }
+    ensures { IfOk result (λ duty. (serves 0 (partial_of duty) ≡ true) × (serves 1 (partial_of duty) ≡ true)) }
 {
     let none = stay(0, 0, Kind::Plain);
     let steps = [

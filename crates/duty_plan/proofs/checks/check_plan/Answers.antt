@@ -2,7 +2,8 @@ use Rattle.std.proofs.Common.{◌≡◌, ◌+◌, ◌∙◌, sym, ap, arith, len
 use Rattle.duty_plan.specs.declared.faults.PlanFault.TheVariants.{Twice, Lost}
 use Rattle.duty_plan.specs.Duties.{price_of, worth, cost_of_plan}
 use Rattle.duty_plan.specs.Verdicts.{duties_fault}
-use Rattle.duty_plan.proofs.Answering.{tells, each-once, few-given, verdict-duties, verdict-twice, verdict-lost, verdict-none}
+use Rattle.duty_plan.proofs.Answering.{tells, each-once}
+use Rattle.duty_plan.proofs.PlanVerdicts.{few-given, verdict-duties, verdict-twice, verdict-lost, verdict-none}
 use Rattle.duty_plan.proofs.checks.check_plan.Goals as goal
 
 pub returns-in-Err-clause-lawful : goal.returns-in-Err-clause-lawful

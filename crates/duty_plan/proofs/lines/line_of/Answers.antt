@@ -2,9 +2,9 @@ use Rattle.std.proofs.Common.{◌≡◌, ◌++◌, ◌∷◌, [], ◌∙◌, ap,
 use Rattle.std.proofs.lemmas.List.{take_all}
 use Rattle.minute_line.specs.declared.marks.Kind.TheVariants.{Plain}
 use Rattle.minute_line.specs.Stints.{is_line}
-use Rattle.duty_plan.specs.Duties.{front_of, open_off_at}
+use Rattle.duty_plan.specs.Duties.{partial_of, open_off_at}
 use Rattle.duty_plan.specs.Stints.{stints_of}
-use Rattle.duty_plan.proofs.Stretches.{line-front, stints-more, place-more}
+use Rattle.duty_plan.proofs.Stretches.{line-partial, stints-more, place-more}
 use Rattle.duty_plan.proofs.lines.line_of.Goals as goal
 
 pub loop-step-preserved : goal.loop-step-preserved
@@ -30,5 +30,5 @@ invariant_of-result c =
     take_all c.loop-step.step-index c.as_slice-step-items.result.now c.loop-step-test.false ∙ c.as_slice-step-items.ensures in
     let stints = c.loop-step.invariant.stints ∙ ap (λ x. stints_of c.args.case.now.week (reverse x)) all in
     record {
-      shape = ap is_line stints ∙ line-front c.args.case.now.week (open_off_at c.args.case.now c.args.driver) (front_of c.args.duty.now) c.requires.case.week c.requires.steps;
+      shape = ap is_line stints ∙ line-partial c.args.case.now.week (open_off_at c.args.case.now c.args.driver) (partial_of c.args.duty.now) c.requires.case.week c.requires.steps;
     }

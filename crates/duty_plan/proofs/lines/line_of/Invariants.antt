@@ -1,5 +1,5 @@
 use Rattle.std.proofs.Common.{◌≡◌, reverse, take}
-use Rattle.duty_plan.specs.Fronts.{place_after}
+use Rattle.duty_plan.specs.PartialDuties.{place_after}
 use Rattle.duty_plan.specs.Stints.{stints_of}
 use Rattle.duty_plan.proofs.lines.line_of.Given as goal
 

@@ -1,6 +1,6 @@
 use Rattle.std.proofs.Common.{ℕ, ap, ◌∙◌}
 use Rattle.std.specs.Int.{bit_at}
-use Rattle.duty_plan.specs.Fronts.{serves}
+use Rattle.duty_plan.specs.PartialDuties.{serves}
 use Rattle.duty_plan.proofs.Bits.{served_bits}
 use Rattle.duty_plan.proofs.OfficeSteps.{anew}
 use Rattle.duty_plan.proofs.office.serves_anew.Goals as goal

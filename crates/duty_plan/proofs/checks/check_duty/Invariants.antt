@@ -1,6 +1,0 @@
-use Rattle.std.proofs.Common.{reverse, take}
-use Rattle.duty_plan.specs.Walks.{StandsFor}
-use Rattle.duty_plan.proofs.checks.check_duty.Given as goal
-
-abbrev pub invariant-loop-step : goal.invariant-loop-step
-invariant-loop-step l = StandsFor l.case.week l.lorry l.history (reverse (take l.step-index l.step-items)) l.walk

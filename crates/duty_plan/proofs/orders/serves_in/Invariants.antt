@@ -1,6 +1,0 @@
-use Rattle.std.proofs.Common.{◌≡◌, false, reverse, take}
-use Rattle.duty_plan.specs.Fronts.{serves}
-use Rattle.duty_plan.proofs.orders.serves_in.Given as goal
-
-abbrev pub invariant-loop-step : goal.invariant-loop-step
-invariant-loop-step l = serves l.order (reverse (take l.step-index l.step-items)) ≡ false
