@@ -1,4 +1,4 @@
--- What a step brings to a lawful front of a driver.
+-- What a step brings to a lawful partial duty of a driver.
 use Rattle.std.proofs.Common.{◌≡◌, ℕ, ◌<◌, ◌∷◌, length, get_or, Option, Some, None, option_map, slice_get, refl, ap, sym}
 use Rattle.std.proofs.lemmas.Option.{slice_get_read}
 use Rattle.minute_line.specs.declared.lines.History.{History}
@@ -11,8 +11,8 @@ use Rattle.duty_plan.specs.declared.duties.Step.{Step}
 use Rattle.duty_plan.specs.declared.faults.DutyFault.{DutyFault}
 use Rattle.duty_plan.specs.declared.faults.DutyFault.TheVariants.{Rule}
 use Rattle.duty_plan.specs.declared.plans.Case.{Case}
-use Rattle.duty_plan.specs.Fronts.{Front, line_after, KeepsOffice}
-use Rattle.duty_plan.specs.Duties.{IsCase, IsLawfulFront, past_at, past_or_none, open_off_at, open_or_none}
+use Rattle.duty_plan.specs.PartialDuties.{PartialDuty, line_after, KeepsOffice}
+use Rattle.duty_plan.specs.Duties.{IsCase, IsLawfulPartialDuty, past_at, past_or_none, open_off_at, open_or_none}
 use Rattle.duty_plan.specs.Duties.{capacity_at, capacity_or_none}
 use Rattle.duty_plan.specs.Verdicts.{first_failed, numbered, tests_of_step, earlier_or}
 use Rattle.duty_plan.proofs.Keeping.{keeps-passed, passed-keeps}
@@ -31,7 +31,7 @@ names case driver lorry history c l a b = record {
 }
 
 -- the fault of a step that the office takes is the hours rules'
-pub fault-hours : (case : Case) (driver : ℕ) (lorry : Driver) (history : History) (before : Front) (step : Step) (found : Option Broken) →
+pub fault-hours : (case : Case) (driver : ℕ) (lorry : Driver) (history : History) (before : PartialDuty) (step : Step) (found : Option Broken) →
     Names case driver lorry history → KeepsOffice case.week history.open_off lorry.capacity step before →
     fault (past_of history) (line_after case.week (step ∷ before)) ≡ found →
     fault_of_step case driver before step ≡ option_map (λ broken. Rule broken) found
@@ -55,9 +55,9 @@ neither : (found later : Option DutyFault) → earlier_or found later ≡ None �
 neither None later h = (refl, h)
 neither (Some f) later h = cc
 
--- a step that brings no fault makes a lawful front of one
-pub lawful-longer : (case : Case) (driver : ℕ) (before : Front) (step : Step) → IsLawfulFront case driver before →
-    fault_of_step case driver before step ≡ None → IsLawfulFront case driver (step ∷ before)
+-- a step that brings no fault makes a lawful partial duty of one
+pub lawful-longer : (case : Case) (driver : ℕ) (before : PartialDuty) (step : Step) → IsLawfulPartialDuty case driver before →
+    fault_of_step case driver before step ≡ None → IsLawfulPartialDuty case driver (step ∷ before)
 lawful-longer case driver before step l h =
     let parts = neither _ (option_map (λ broken. Rule broken) (fault (past_at case driver) (line_after case.week (step ∷ before)))) h in
     record {

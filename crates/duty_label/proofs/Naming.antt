@@ -6,7 +6,7 @@ use Rattle.week_book.specs.declared.weeks.Week.{Week}
 use Rattle.duty_plan.specs.declared.duties.Step.{Step}
 use Rattle.duty_plan.specs.declared.faults.DutyFault.{DutyFault}
 use Rattle.duty_plan.specs.declared.faults.DutyFault.TheVariants.{Rule}
-use Rattle.duty_plan.specs.Fronts.{Front, line_after, place_after}
+use Rattle.duty_plan.specs.PartialDuties.{PartialDuty, line_after, place_after}
 use Rattle.duty_plan.specs.Duties.{cost_after, past_at, open_off_at, capacity_at}
 use Rattle.duty_plan.specs.Verdicts.{Test, earlier_or, first_failed, numbered, office_fault, tests_of_step, verdict_after}
 use Rattle.duty_plan.proofs.Keeping.{none-keeps}
@@ -30,7 +30,7 @@ first-of n (test ∷ rest) found all h = by_test test.passes refl h (λ m. first
         rw same at all.0
 
 -- the faults of a step have its number
-own-number : (week : Week) (open_off capacity : ℕ) (step : Step) (before : Front) (found : DutyFault) →
+own-number : (week : Week) (open_off capacity : ℕ) (step : Step) (before : PartialDuty) (found : DutyFault) →
     first_failed (tests_of_step week open_off capacity step before) ≡ Some found → numbered (length before) (numbered 0 found) ≡ found
 own-number week open_off capacity step before found h =
     first-of (length before) (tests_of_step week open_off capacity step before) found
@@ -64,7 +64,7 @@ named_as_judged case driver before step found lawful h =
 pub named_for_duties : NamedForDuties
 named_for_duties case driver duty before step found is home lawful h =
     let test : eqb (place_after (step ∷ before)) 0 ≡ true = ap (λ (x : ℕ). eqb x 0) home in
-    ap (λ (x : Front). verdict_after (office_fault case.week (open_off_at case driver) (capacity_at case driver) x) (eqb (place_after x) 0)
+    ap (λ (x : PartialDuty). verdict_after (office_fault case.week (open_off_at case driver) (capacity_at case driver) x) (eqb (place_after x) 0)
     (fault (past_at case driver) (line_after case.week x)) (cost_after case driver x)) is
     ∙ (ap (λ (x : Bool). verdict_after (office_fault case.week (open_off_at case driver) (capacity_at case driver) (step ∷ before)) x
     (fault (past_at case driver) (line_after case.week (step ∷ before))) (cost_after case driver (step ∷ before))) test

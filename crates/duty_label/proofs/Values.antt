@@ -17,10 +17,10 @@ use Rattle.duty_plan.specs.declared.duties.Step.{Step}
 use Rattle.duty_plan.specs.declared.plans.Case.{Case}
 use Rattle.duty_plan.specs.declared.pricing.Prices.{Prices}
 use Rattle.duty_plan.specs.Acts.{order_of_act, cents_of_act}
-use Rattle.duty_plan.specs.Fronts.{Front, KeepsOfficeThrough, place_after}
+use Rattle.duty_plan.specs.PartialDuties.{PartialDuty, KeepsOfficeThrough, place_after}
 use Rattle.duty_plan.specs.Duties.{worth, orders_of, price_or_none, cost_after, fee_or_none, night_of}
 use Rattle.duty_plan.specs.Labels.{has_step}
-use Rattle.duty_plan.specs.Values.{IsPrices, price_at, value_after}
+use Rattle.duty_plan.specs.Values.{IsPrices, price_at, reduced_cost}
 use Rattle.duty_plan.proofs.Sums.{worth-append}
 use Rattle.duty_plan.proofs.WeekLimits.{all-slice_get, few-steps, early, cheap}
 use Rattle.duty_label.specs.Children.{IsSmallValue}
@@ -53,16 +53,16 @@ worth-act week prices (Leg to) w p = omega arith
 worth-act week prices (Serve order) w p = omega (arith, price-small week prices order w p)
 worth-act week prices Load w p = omega arith
 
--- the prices of a front's orders
-worth-front : (week : Week) (prices : Prices) (front : Front) → IsWeek week → IsPrices week prices →
-    worth (price_at prices) (orders_of front) ≤ 100000000 * length front
-worth-front week prices [] w p = omega arith
-worth-front week prices (step ∷ before) w p =
+-- the prices of a partial duty's orders
+worth-partial : (week : Week) (prices : Prices) (partial : PartialDuty) → IsWeek week → IsPrices week prices →
+    worth (price_at prices) (orders_of partial) ≤ 100000000 * length partial
+worth-partial week prices [] w p = omega arith
+worth-partial week prices (step ∷ before) w p =
     omega (
       arith,
       worth-append (price_at prices) (order_of_act step.act) (orders_of before),
       worth-act week prices step.act w p,
-      worth-front week prices before w p,
+      worth-partial week prices before w p,
     )
 
 pub fee-small : (found : Option Driver) (driver : ℕ) (week : Week) → IsWeek week → driver_of week driver ≡ found → fee_or_none found ≤
@@ -70,9 +70,9 @@ pub fee-small : (found : Option Driver) (driver : ℕ) (week : Week) → IsWeek 
 fee-small None driver week w e = omega arith
 fee-small (Some d) driver week w e = (all-slice_get IsDriver week.drivers driver d w.drivers e).fee
 
-cost-small : (case : Case) (driver open_off capacity : ℕ) (front : Front) → IsWeek case.week → KeepsOfficeThrough case.week open_off
-    capacity front →
-    cost_after case driver front ≤ 30000000000
+cost-small : (case : Case) (driver open_off capacity : ℕ) (partial : PartialDuty) → IsWeek case.week → KeepsOfficeThrough case.week open_off
+    capacity partial →
+    cost_after case driver partial ≤ 30000000000
 cost-small case driver open_off capacity [] w k = omega arith
 cost-small case driver open_off capacity (step ∷ before) w k =
     omega (
@@ -83,26 +83,26 @@ cost-small case driver open_off capacity (step ∷ before) w k =
       early case.week open_off capacity (step ∷ before) k,
     )
 
--- a lawful front's value is small
-pub value-small : (case : Case) (driver : ℕ) (prices : Prices) (open_off capacity : ℕ) (front : Front) → IsWeek case.week → IsPrices
+-- a lawful partial duty's value is small
+pub value-small : (case : Case) (driver : ℕ) (prices : Prices) (open_off capacity : ℕ) (partial : PartialDuty) → IsWeek case.week → IsPrices
     case.week prices →
-    KeepsOfficeThrough case.week open_off capacity front → IsSmallValue (value_after case driver prices front)
-value-small case driver prices open_off capacity front w p k =
-    let worths = worth-front case.week prices front w p in
-    let few = few-steps case.week open_off capacity front w k in
-    let end = early case.week open_off capacity front k in
-    let cost = cost-small case driver open_off capacity front w k in record {
+    KeepsOfficeThrough case.week open_off capacity partial → IsSmallValue (reduced_cost case driver prices partial)
+value-small case driver prices open_off capacity partial w p k =
+    let worths = worth-partial case.week prices partial w p in
+    let few = few-steps case.week open_off capacity partial w k in
+    let end = early case.week open_off capacity partial k in
+    let cost = cost-small case driver open_off capacity partial w k in record {
       least = omega (arith, ints, worths, few, end, cost);
       most = omega (arith, ints, worths, few, end, cost);
     }
 
--- the value of a front with a step more
-pub value-step : (case : Case) (driver : ℕ) (prices : Prices) (lorry : Driver) (before : Front) (step : Step) (paid : Bool)
+-- the value of a partial duty with a step more
+pub value-step : (case : Case) (driver : ℕ) (prices : Prices) (lorry : Driver) (before : PartialDuty) (step : Step) (paid : Bool)
     (fee cents price : ℕ) →
     driver_of case.week driver ≡ Some lorry → paid ≡ has_step before → fee ≡ cond paid 0 lorry.fee →
     cents ≡ night_of case.week step before + cents_of_act case.week (place_after before) step.act → price ≡ worth (price_at prices)
     (order_of_act step.act) →
-    value_after case driver prices before +ℤ pos (fee + cents) -ℤ pos price ≡ value_after case driver prices (step ∷ before)
+    reduced_cost case driver prices before +ℤ pos (fee + cents) -ℤ pos price ≡ reduced_cost case driver prices (step ∷ before)
 value-step case driver prices lorry [] step paid fee cents price d h f c p =
     let due : fee_or_none (driver_of case.week driver) ≡ lorry.fee = ap fee_or_none d in
     let first : fee ≡ lorry.fee = f ∙ rw h refl in

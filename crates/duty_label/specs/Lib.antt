@@ -1,1 +1,4 @@
 pub mod Children
+pub mod Walks
+pub mod Tables
+pub mod Pruning

@@ -1,12 +1,12 @@
 // The label of a driver before any step, and the labels that one step more makes of a label.
 ghost use Rattle.std.specs.Prelude.{◌≡◌, ◌<◌, ◌↔◌, ◌∷◌, [], true, false, length, IsOk, IfOk, Some, Err};
-ghost use Rattle.duty_plan.specs.Fronts.{Front};
-ghost use Rattle.duty_plan.specs.Duties.{IsCase, IsLawfulFront};
+ghost use Rattle.duty_plan.specs.PartialDuties.{PartialDuty};
+ghost use Rattle.duty_plan.specs.Duties.{IsCase, IsLawfulPartialDuty};
 ghost use Rattle.duty_plan.specs.Values.{IsPairs, IsPrices};
 ghost use Rattle.duty_plan.specs.Labels.{IsLabelOf};
 ghost use Rattle.duty_label.specs.Children.{AnswersChild, AnswersLonger, HasLabel, IsLabelOfSome, fault_of_step, serves_barred};
 
-use crate::prices::{fee_due, is_barred, price, value_with};
+use crate::prices::{fee_due, is_barred, price_of_act, value_with};
 use crate::refusals::NoChild;
 use duty_plan::{Act, Case, DutyFault, Label, Pairs, Position, Prices, Step};
 use hours_rules::{Stay, go, start};
@@ -62,7 +62,7 @@ fn longer(
     requires driver { driver < length case.now.week.drivers }
     requires prices { IsPrices case.now.week prices.now }
     requires label { IsLabelOfSome case.now driver prices.now label.now }
-    ensures { (before : Front) → HasLabel case.now driver prices.now before label.now →
+    ensures { (before : PartialDuty) → HasLabel case.now driver prices.now before label.now →
         AnswersLonger case.now driver prices.now before step.now result }
 {
     let history = &case.past.as_slice()[driver as usize];
@@ -85,7 +85,7 @@ fn longer(
         value: value_with(
             label.value,
             fee_due(label.fee_paid, lorry) + taken.cents,
-            price(&case.week, prices, step.act),
+            price_of_act(&case.week, prices, step.act),
         ),
     })
 }
@@ -109,15 +109,15 @@ pub fn child(
     requires pairs { IsPairs case.now.week pairs.now }
     requires prices { IsPrices case.now.week prices.now }
     requires label { IsLabelOfSome case.now driver prices.now label.now }
-    ensures answer { (before : Front) → HasLabel case.now driver prices.now before label.now →
+    ensures answer { (before : PartialDuty) → HasLabel case.now driver prices.now before label.now →
         AnswersChild case.now driver pairs.now prices.now before (record { stay = stay; act = act }) result }
-    ensures lawful { (before : Front) → HasLabel case.now driver prices.now before label.now →
+    ensures lawful { (before : PartialDuty) → HasLabel case.now driver prices.now before label.now →
         IsOk result ↔ ((serves_barred case.now.week pairs.now driver act ≡ false)
-        × IsLawfulFront case.now driver (record { stay = stay; act = act } ∷ before)) }
-    ensures label { (before : Front) → HasLabel case.now driver prices.now before label.now →
+        × IsLawfulPartialDuty case.now driver (record { stay = stay; act = act } ∷ before)) }
+    ensures label { (before : PartialDuty) → HasLabel case.now driver prices.now before label.now →
         IfOk result (λ child. IsLabelOf case.now driver prices.now child (record { stay = stay; act = act } ∷ before)) }
     ensures barred { result ≡ Err (NoChild.Barred) ↔ serves_barred case.now.week pairs.now driver act ≡ true }
-    ensures fault { (before : Front) → HasLabel case.now driver prices.now before label.now → (fault : DutyFault) →
+    ensures fault { (before : PartialDuty) → HasLabel case.now driver prices.now before label.now → (fault : DutyFault) →
         result ≡ Err (NoChild.Fault fault) ↔ ((serves_barred case.now.week pairs.now driver act ≡ false)
         × (fault_of_step case.now driver before (record { stay = stay; act = act }) ≡ Some fault)) }
     ensures some { IfOk result (λ child. IsLabelOfSome case.now driver prices.now child) }

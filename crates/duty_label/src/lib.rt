@@ -1,15 +1,26 @@
-//! The label of a driver's steps, and of one step more. Times are whole minutes, a week minute counts from Monday 00:00 UTC,
-//! money is in cents, loads are in kg; drivers, places and orders count from 0.
+//! The label of a driver's steps, and of one step more; and which labels need not be stored. Times are whole minutes, a week
+//! minute counts from Monday 00:00 UTC, money is in cents, loads are in kg; drivers, places and orders count from 0.
 #![tactic(auto)]
 
 mod children;
+#[cfg(test)]
+mod desks;
 mod laws;
+#[cfg(test)]
+mod order_tests;
 mod prices;
+mod pruning;
+#[cfg(test)]
+mod pruning_tests;
 mod refusals;
+mod tables;
 #[cfg(test)]
 mod tests;
+mod walks;
 
 pub use children::{child, first};
 pub use duty_plan::Label;
-pub use laws::named_as_judged;
+pub use laws::{named_as_judged, prune};
+pub use prices::price_of_act;
 pub use refusals::NoChild;
+pub use walks::{Walks, make_walks};

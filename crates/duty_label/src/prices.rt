@@ -3,25 +3,11 @@ ghost use Rattle.std.specs.Prelude.{◌≡◌, ◌<◌, ◌≤◌, ◌+ℤ◌, �
 ghost use Rattle.week_book.specs.Weeks.{IsWeek};
 ghost use Rattle.duty_plan.specs.Acts.{order_of_act};
 ghost use Rattle.duty_plan.specs.Duties.{worth};
-ghost use Rattle.duty_plan.specs.Values.{IsPairs, IsPrices, pair_at, price_at};
+ghost use Rattle.duty_plan.specs.Values.{IsPairs, IsPrices, price_at};
 ghost use Rattle.duty_label.specs.Children.{IsSmallValue, serves_barred};
 
 use duty_plan::{Act, Pair, Pairs, Prices};
 use week_book::{Driver, Week};
-
-/// What is decided of a driver and an order of the week.
-fn pair(week: &Week, pairs: &Pairs, driver: u32, order: u32) -> Pair
-    requires week { IsWeek week.now }
-    requires pairs { IsPairs week.now pairs.now }
-    requires driver { driver < length week.now.drivers }
-    requires order { order < length week.now.orders }
-    ensures { result ≡ pair_at pairs.now driver order }
-{
-    match pairs.cells.get((driver * pairs.orders + order) as usize) {
-        Some(pair) => *pair,
-        None => Pair::Free,
-    }
-}
 
 /// Whether the act serves an order of the week that is Barred for the driver.
 pub(crate) fn is_barred(week: &Week, pairs: &Pairs, driver: u32, act: Act) -> bool
@@ -32,14 +18,14 @@ pub(crate) fn is_barred(week: &Week, pairs: &Pairs, driver: u32, act: Act) -> bo
 {
     match act {
         Act::Serve(order) if order < pairs.orders => {
-            matches!(pair(week, pairs, driver, order), Pair::Barred)
+            matches!(pairs.pair(week, driver, order), Pair::Barred)
         }
         Act::Leg(_) | Act::Serve(_) | Act::Load => false,
     }
 }
 
 /// The price of the order that the act serves, in cents.
-pub(crate) fn price(week: &Week, prices: &Prices, act: Act) -> u64
+pub fn price_of_act(week: &Week, prices: &Prices, act: Act) -> u64
     requires week { IsWeek week.now }
     requires prices { IsPrices week.now prices.now }
     ensures price { result ≡ worth (price_at prices.now) (order_of_act act) }

@@ -1,208 +1,10 @@
-// A week of one driver, by hand: a leg is 60 minutes and 3,000 cents, the fee 2,000, a load 15 minutes; the order at P takes 30
-// minutes, opens at 480 and closes at 720, and its price is 9,000. The history is an open off run of 2,880 minutes. What a
-// label is expected to say, and each fault, are worked out by hand from that.
-ghost use Rattle.std.specs.Prelude.{◌≡◌, ◌<◌, ◌∷◌, [], All, IfOk, length, map, slice_get};
-ghost use Rattle.std.specs.List.{IsDistinct};
-ghost use Rattle.week_book.specs.Weeks.{AreNames, IsLeg, IsDriver, IsOrder, same_ends};
-ghost use Rattle.duty_plan.specs.Duties.{IsCase, price_of, price_or_none};
-ghost use Rattle.duty_plan.specs.Values.{IsPairs, IsPrices};
-ghost use Rattle.duty_label.specs.Children.{IsLabelOfSome};
-
+// The labels of the steps of a trip in the week of `desks`, and each fault. What a label is expected to say, and each fault, are
+// worked out by hand.
 use super::*;
-use duty_plan::{Act, Case, DutyFault, Pair, Pairs, Prices, Step};
+use crate::desks::{HOME, LOAD, NONE, OUT, SERVE, label_of, prepared};
+use duty_plan::{Act, DutyFault, Pair, Step};
 use hours_rules::{Broken, Clock, Rule, Stay};
-use minute_line::{History, Kind, Line, Many, Memory, Monday, Name, read_monday};
-use std::alloc::Global;
-use week_book::{Driver, Leg, Order, Week};
-
-/// The depot HUB and the place P.
-fn places(alloc: Global) -> Result<Many<Name>, Memory>
-    ensures { IfOk result (λ places. (length places ≡ 2) × AreNames places) }
-{
-    let mut places = Many::new(alloc);
-    places.push(Many::from_slice(alloc, b"HUB")?)?;
-    places.push(Many::from_slice(alloc, b"P")?)?;
-    Ok(places)
-}
-
-/// The road between HUB and P, either way.
-fn leg(from: u32, to: u32) -> Leg
-    ensures { result ≡ record { from = from; to = to; minutes = 60; cents = 3000 } }
-{
-    Leg {
-        from,
-        to,
-        minutes: 60,
-        cents: 3000,
-    }
-}
-
-/// The legs there and back.
-fn legs(alloc: Global) -> Result<Many<Leg>, Memory>
-    ensures { IfOk result (λ legs. (length legs ≡ 2) × All (IsLeg 2) legs × IsDistinct same_ends legs) }
-{
-    let mut legs = Many::new(alloc);
-    legs.push(leg(0, 1))?;
-    legs.push(leg(1, 0))?;
-    Ok(legs)
-}
-
-/// One driver with a lorry of 24,000 kg.
-fn drivers(alloc: Global) -> Result<Many<Driver>, Memory>
-    ensures { IfOk result (λ drivers. (length drivers ≡ 1) × All IsDriver drivers
-        × AreNames (map (λ driver. driver.name) drivers)) }
-{
-    let mut drivers = Many::new(alloc);
-    drivers.push(Driver {
-        name: Many::from_slice(alloc, b"D1")?,
-        capacity: 24_000,
-        fee: 2000,
-    })?;
-    Ok(drivers)
-}
-
-/// One order of 12,000 kg at P.
-fn orders(alloc: Global) -> Result<Many<Order>, Memory>
-    ensures { IfOk result (λ orders. (length orders ≡ 1) × All (IsOrder 2) orders
-        × AreNames (map (λ order. order.name) orders) × (price_or_none (slice_get orders 0) ≡ 9000)) }
-{
-    let mut orders = Many::new(alloc);
-    orders.push(Order {
-        name: Many::from_slice(alloc, b"A")?,
-        place: 1,
-        opens: 480,
-        closes: 720,
-        service: 30,
-        kg: 12_000,
-        price: 9000,
-    })?;
-    Ok(orders)
-}
-
-/// The case: a history that ends in an open off run of two days.
-fn case(alloc: Global, monday: Monday) -> Result<Case, Memory>
-    ensures { IfOk result (λ case. IsCase case × (length case.week.drivers ≡ 1) × (length case.week.orders ≡ 1)
-        × (price_of case.week 0 ≡ 9000)) }
-{
-    let mut past = Many::new(alloc);
-    past.push(History {
-        prev_weekly: 2700,
-        stints: Line {
-            stints: Many::new(alloc),
-        },
-        open_off: 2880,
-        prev_drive: 0,
-        work16: [0; 16],
-    })?;
-    let week = Week {
-        monday,
-        load: 15,
-        night: 3000,
-        grid: 15,
-        places: places(alloc)?,
-        legs: legs(alloc)?,
-        drivers: drivers(alloc)?,
-        orders: orders(alloc)?,
-    };
-    Ok(Case { week, past })
-}
-
-/// What is decided of the driver and the order.
-fn pairs(alloc: Global, pair: Pair) -> Result<Pairs, Memory>
-    ensures { IfOk result (λ pairs. (pairs.orders ≡ 1) × (length pairs.cells ≡ 1)) }
-{
-    Ok(Pairs {
-        orders: 1,
-        cells: Many::from_slice(alloc, &[pair])?,
-    })
-}
-
-/// The order's price.
-fn prices(alloc: Global) -> Result<Prices, Memory>
-    ensures { IfOk result (λ prices. prices.cents ≡ 9000 ∷ []) }
-{
-    Ok(Prices {
-        cents: Many::from_slice(alloc, &[9000])?,
-    })
-}
-
-/// A case with what is decided, and prices.
-#[derive(Drop)]
-struct Desk {
-    case: Case,
-    pairs: Pairs,
-    prices: Prices,
-}
-
-/// The driver's desk, where that is decided of the order.
-fn prepared(alloc: Global, monday: Monday, pair: Pair) -> Result<Desk, Memory>
-    ensures { IfOk result (λ desk. IsCase desk.case × (0 < length desk.case.week.drivers) × IsPairs desk.case.week desk.pairs
-        × IsPrices desk.case.week desk.prices) }
-{
-    Ok(Desk {
-        case: case(alloc, monday)?,
-        pairs: pairs(alloc, pair)?,
-        prices: prices(alloc)?,
-    })
-}
-
-/// The label of those steps, or why the first that makes no child doesn't.
-fn label_of(desk: &Desk, steps: &[Step]) -> Result<Label, NoChild>
-    requires case { IsCase desk.now.case }
-    requires driver { 0 < length desk.now.case.week.drivers }
-    requires pairs { IsPairs desk.now.case.week desk.now.pairs }
-    requires prices { IsPrices desk.now.case.week desk.now.prices }
-    ensures { IfOk result (λ label. IsLabelOfSome desk.now.case 0 desk.now.prices label) }
-{
-    let mut label = first(&desk.case, 0);
-    for step in steps {
-        match child(
-            &desk.case,
-            0,
-            &desk.pairs,
-            &desk.prices,
-            &label,
-            step.stay,
-            step.act,
-        ) {
-            Ok(next) => label = next,
-            Err(refusal) => return Err(refusal),
-        }
-    }
-    Ok(label)
-}
-
-/// No stay.
-const NONE: Stay = Stay {
-    ready: 0,
-    off: 0,
-    kind: Kind::Plain,
-};
-
-/// The load after a weekly rest to minute 405, the leg to P, the service there, and the leg home.
-const LOAD: Step = Step {
-    stay: Stay {
-        ready: 0,
-        off: 405,
-        kind: Kind::Weekly,
-    },
-    act: Act::Load,
-};
-
-const OUT: Step = Step {
-    stay: NONE,
-    act: Act::Leg(1),
-};
-
-const SERVE: Step = Step {
-    stay: NONE,
-    act: Act::Serve(0),
-};
-
-const HOME: Step = Step {
-    stay: NONE,
-    act: Act::Leg(0),
-};
+use minute_line::{Kind, read_monday};
 
 /// The clock on Monday 00:00, in the open run of 2,880 minutes.
 const BEFORE: Clock = Clock {
@@ -222,6 +24,8 @@ const BEFORE: Clock = Clock {
     work_week: 0,
     prev_drive: 0,
     work_before: 0,
+    owed: 0,
+    due: 0,
     half: false,
     split: false,
 };
@@ -251,7 +55,7 @@ fn clock(from: i32, rest: u32, at: u32, drive: u32, work: u32) -> Clock {
 /// By hand: the open run of 2,880 joins the stay's 405 Off minutes and ends as a weekly rest of 3,285 at minute 405, where the
 /// day and the time since the weekly rest begin. The load is Work from 405 to 420 and makes the fee due; each leg is 60 Drive
 /// minutes and 3,000 cents; the service is Work from 480 to 510, takes 12,000 kg and is paid 9,000. Nothing pauses.
-const TRIP: [(&[Step], u32, u32, u32, u32, u64, u32, i64); 4] = [
+const TRIP: [(&[Step], u32, u32, u32, u32, u128, u32, i64); 4] = [
     (&[LOAD], 420, 0, 15, 0, 0, 0, 2000),
     (&[LOAD, OUT], 480, 60, 75, 1, 0, 0, 5000),
     (&[LOAD, OUT, SERVE], 510, 60, 105, 1, 1, 12_000, -4000),

@@ -15,10 +15,10 @@ returns-in-Ok-clause-lawful c = λ before h. (
 pub returns-in-Ok-clause-some : goal.returns-in-Ok-clause-some
 returns-in-Ok-clause-some c =
     let s = c.requires.label in
-    let next = c.in-Ok.ensures s.front s.has_label in record {
-      front = record { stay = c.args.stay; act = c.args.act } ∷ s.front;
+    let next = c.in-Ok.ensures s.partial s.has_label in record {
+      partial = record { stay = c.args.stay; act = c.args.act } ∷ s.partial;
       has_label = record {
-        lawful = lawful-longer c.args.case.now c.args.driver s.front (record { stay = c.args.stay; act = c.args.act }) s.has_label.lawful
+        lawful = lawful-longer c.args.case.now c.args.driver s.partial (record { stay = c.args.stay; act = c.args.act }) s.has_label.lawful
             next.0;
         label_of = next.1;
       };

@@ -5,7 +5,7 @@ use Rattle.duty_label.proofs.children.first.Goals as goal
 
 pub returns-clause-some : goal.returns-clause-some
 returns-clause-some c = λ prices. record {
-  front = _;
+  partial = _;
   has_label = first-label c.args.case.now c.args.driver prices c.index-as_slice-driver.result c.start.result
       (slice_get_read c.args.case.now.past (length c.args.case.now.week.drivers) c.args.driver c.index-as_slice-driver.result (sym
       c.requires.case.drivers) c.requires.driver

@@ -120,7 +120,7 @@ returns c = λ before h.
       due-small c.args.label.now.fee_paid c.index-as_slice-driver-2.result.fee c.fee_due.result fee c.fee_due.ensures,
     ) in
     longer-label c.args.case.now c.args.driver c.args.prices.now c.index-as_slice-driver-2.result c.index-as_slice-driver.result before
-    c.args.label.now c.args.step.now c.in-Ok.taken c.in-Ok-go.clock c.fee_due.result c.price.result _ n h
-    (rw c.position.ensures at c.in-Ok.ensures) (rw c.mark.ensures.mark at c.in-Ok-go.ensures.line) c.fee_due.ensures c.price.ensures.price
-    (fits-step c.args.label.now.value c.value_with.result (c.fee_due.result + c.in-Ok.taken.cents) c.price.result small cents
-    c.price.ensures.bound c.value_with.ensures)
+    c.args.label.now c.args.step.now c.in-Ok.taken c.in-Ok-go.clock c.fee_due.result c.price_of_act.result _ n h
+    (rw c.position.ensures at c.in-Ok.ensures) (rw c.mark.ensures.mark at c.in-Ok-go.ensures.line) c.fee_due.ensures c.price_of_act.ensures.price
+    (fits-step c.args.label.now.value c.value_with.result (c.fee_due.result + c.in-Ok.taken.cents) c.price_of_act.result small cents
+    c.price_of_act.ensures.bound c.value_with.ensures)

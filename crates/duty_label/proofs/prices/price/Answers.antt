@@ -1,5 +1,0 @@
-use Rattle.duty_label.proofs.Values.{no-price}
-use Rattle.duty_label.proofs.prices.price.Goals as goal
-
-pub returns-in-None-clause-price : goal.returns-in-None-clause-price
-returns-in-None-clause-price c = rw c.in-Serve.is (no-price c.args.prices.now c.in-Serve.order c.in-None.ensures)
