@@ -1,6 +1,6 @@
--- A front that is some minutes behind another, and as good: what the other may do next, it may do after these minutes.
+-- A partial duty that is some minutes behind another, and as good: what the other may do next, it may do after these minutes.
 use Rattle.std.proofs.Common.{◌≡◌, ℕ, ◌+◌, ◌≤◌, Bool, true, false, not, ◌||◌, ◌%◌, eqb, leb, [], ◌∷◌, refl, ap, sym, ◌∙◌, arith, None}
-use Rattle.std.proofs.lemmas.Bool.{leb-true, le-leb}
+use Rattle.std.proofs.lemmas.Bool.{leb-true, le-leb, eq-eqb}
 use Rattle.std.specs.Int.{bit_at}
 use Rattle.minute_line.specs.declared.marks.Mark.TheVariants.{Ready}
 use Rattle.minute_line.specs.declared.marks.Kind.TheVariants.{Plain}
@@ -14,21 +14,21 @@ use Rattle.duty_plan.specs.declared.duties.Act.TheVariants.{Leg, Serve, Load}
 use Rattle.duty_plan.specs.declared.duties.Step.{Step}
 use Rattle.duty_plan.specs.declared.plans.Case.{Case}
 use Rattle.duty_plan.specs.Acts.{mark_of, minutes_of, may_start, used_by, loaded_by, place_by, can_be_done, serves_order}
-use Rattle.duty_plan.specs.Fronts.{Front, place_after, line_after, at_after, start_of, serves, loaded_after, used_after, may_carry, is_new, KeepsOffice, stays_well}
+use Rattle.duty_plan.specs.PartialDuties.{PartialDuty, place_after, line_after, at_after, start_of, serves, loaded_after, used_after, may_carry, is_new, KeepsOffice, has_lawful_length}
 use Rattle.duty_plan.specs.Duties.{past_at}
 use Rattle.duty_plan.specs.Labels.{has_step}
 use Rattle.dominance.specs.Completions.{with_ready}
 use Rattle.duty_plan.proofs.WeekLimits.{at-step}
 use Rattle.dominance.proofs.DelayedLines.{delayed_lasts}
 
--- the first front is n minutes behind the second, both after an act: at the same place, with no more load, no order that
--- the second doesn't serve, the same forced orders, and a line as good once it has waited
-pub record IsBehind (case : Case) (driver forced n : ℕ) (first second : Front) : Type 0 where
+-- the first partial duty is n minutes behind the second, both after an act: at the same place, with no more load, no order within
+-- reach that the second doesn't serve, the same forced orders, and a line as good once it has waited
+pub record IsBehind (case : Case) (driver forced reach n : ℕ) (first second : PartialDuty) : Type 0 where
   pub place : place_after first ≡ place_after second
   pub minutes : at_after case.week first + n ≡ at_after case.week second
   pub loaded : loaded_after second ≡ true → loaded_after first ≡ true
   pub used : used_after case.week first ≤ used_after case.week second
-  pub among : (order : ℕ) → serves order second ≡ false → serves order first ≡ false
+  pub among : (order : ℕ) → bit_at reach order ≡ 1 → serves order second ≡ false → serves order first ≡ false
   pub agree : (order : ℕ) → bit_at forced order ≡ 1 → serves order first ≡ serves order second
   pub steps : (has_step first ≡ true) × (has_step second ≡ true)
   pub together : Together (past_at case driver) (past_at case driver) (stretch n Ready Plain (line_after case.week first))
@@ -37,11 +37,11 @@ pub record IsBehind (case : Case) (driver forced n : ℕ) (first second : Front)
 
 -- ---- the office rules, one by one
 
-same_start : (week : Week) (n : ℕ) (step : Step) (first second : Front) → at_after week first + n ≡ at_after week second →
+same_start : (week : Week) (n : ℕ) (step : Step) (first second : PartialDuty) → at_after week first + n ≡ at_after week second →
     start_of week (with_ready n step) first ≡ start_of week step second
 same_start week n step first second e = omega arith
 
-same_end : (week : Week) (n : ℕ) (step : Step) (first second : Front) → place_after first ≡ place_after second →
+same_end : (week : Week) (n : ℕ) (step : Step) (first second : PartialDuty) → place_after first ≡ place_after second →
     at_after week first + n ≡ at_after week second → at_after week (with_ready n step ∷ first) ≡ at_after week (step ∷ second)
 same_end week n step first second p e =
     at-step week (with_ready n step) first
@@ -49,8 +49,8 @@ same_end week n step first second p e =
     ∙ (ap (λ (x : ℕ). start_of week step second + minutes_of week x step.act) p
     ∙ sym (at-step week step second)))
 
-same_lengths : (open_off n : ℕ) (step : Step) (first second : Front) → has_step first ≡ true → has_step second ≡ true →
-    stays_well open_off step second ≡ true → stays_well open_off (with_ready n step) first ≡ true
+same_lengths : (open_off n : ℕ) (step : Step) (first second : PartialDuty) → has_step first ≡ true → has_step second ≡ true →
+    has_lawful_length open_off step second ≡ true → has_lawful_length open_off (with_ready n step) first ≡ true
 same_lengths open_off n step [] second f s h = cc
 same_lengths open_off n step (x ∷ first) [] f s h = cc
 same_lengths open_off n step (x ∷ first) (y ∷ second) f s h = h
@@ -68,17 +68,23 @@ not_less : (x y : Bool) → (y ≡ false → x ≡ false) → not y ≡ true →
 not_less x true f h = cc
 not_less x false f h = ap not (f refl)
 
-anew : (act : Act) (first second : Front) → ((order : ℕ) → serves order second ≡ false → serves order first ≡ false) →
-    is_new act second ≡ true → is_new act first ≡ true
-anew (Leg to) first second among h = refl
-anew Load first second among h = refl
-anew (Serve order) first second among h = not_less (serves order first) (serves order second) (among order) h
+-- the act serves only orders within reach
+abbrev pub ActsWithin : ℕ → Act → Type 0
+ActsWithin reach act = (order : ℕ) → serves_order order act ≡ true → bit_at reach order ≡ 1
 
--- what the second front's next step keeps, the first one's keeps
-pub keeps : (case : Case) (driver forced n open_off capacity : ℕ) (step : Step) (first second : Front) →
-    IsBehind case driver forced n first second → KeepsOffice case.week open_off capacity step second →
+anew : (reach : ℕ) (act : Act) (first second : PartialDuty) → ActsWithin reach act →
+    ((order : ℕ) → bit_at reach order ≡ 1 → serves order second ≡ false → serves order first ≡ false) →
+    is_new act second ≡ true → is_new act first ≡ true
+anew reach (Leg to) first second within among h = refl
+anew reach Load first second within among h = refl
+anew reach (Serve order) first second within among h =
+    not_less (serves order first) (serves order second) (among order (within order (eq-eqb order order refl))) h
+
+-- what the second partial duty's next step keeps, the first one's keeps, where it serves only orders within reach
+pub keeps : (case : Case) (driver forced reach n open_off capacity : ℕ) (step : Step) (first second : PartialDuty) →
+    IsBehind case driver forced reach n first second → ActsWithin reach step.act → KeepsOffice case.week open_off capacity step second →
     KeepsOffice case.week open_off capacity (with_ready n step) first
-keeps case driver forced n open_off capacity step first second b k =
+keeps case driver forced reach n open_off capacity step first second b within k =
     let week = case.week in
     let start = same_start week n step first second b.minutes in
     record {
@@ -90,7 +96,7 @@ keeps case driver forced n open_off capacity step first second b k =
       window = ap (may_start week step.act) start ∙ k.window;
       load = carries week capacity (loaded_after first) (loaded_after second) (used_after week first) (used_after week second) step.act
           b.loaded b.used k.load;
-      twice = anew step.act first second b.among k.twice;
+      twice = anew reach step.act first second within b.among k.twice;
     }
 
 -- ---- one step on
@@ -109,11 +115,11 @@ or_less : (c x y : Bool) → (y ≡ false → x ≡ false) → (c || y) ≡ fals
 or_less true x y f h = h
 or_less false x y f h = f h
 
--- the first front is behind no more after the delayed step
-pub behind-step : (case : Case) (driver forced n : ℕ) (step : Step) (first second : Front) → IsBehind case driver forced n first second →
-    fault (past_at case driver) (line_after case.week (step ∷ second)) ≡ None →
-    IsBehind case driver forced 0 (with_ready n step ∷ first) (step ∷ second)
-behind-step case driver forced n step first second b h =
+-- the first partial duty is behind no more after the delayed step
+pub behind-step : (case : Case) (driver forced reach n : ℕ) (step : Step) (first second : PartialDuty) →
+    IsBehind case driver forced reach n first second → fault (past_at case driver) (line_after case.week (step ∷ second)) ≡ None →
+    IsBehind case driver forced reach 0 (with_ready n step ∷ first) (step ∷ second)
+behind-step case driver forced reach n step first second b h =
     let week = case.week in
     let past = past_at case driver in
     let lasts = delayed_lasts past n step.stay (mark_of step.act) (minutes_of week (place_after second) step.act)
@@ -124,7 +130,7 @@ behind-step case driver forced n step first second b h =
       minutes = omega (arith, same_end week n step first second b.place b.minutes);
       loaded = loaded-step step.act (loaded_after first) (loaded_after second) b.loaded;
       used = used-step week step.act (used_after week first) (used_after week second) b.used;
-      among = λ o. or_less (serves_order o step.act) (serves o first) (serves o second) (b.among o);
+      among = λ o r. or_less (serves_order o step.act) (serves o first) (serves o second) (b.among o r);
       agree = λ o f. ap (λ (x : Bool). serves_order o step.act || x) (b.agree o f);
       steps = (refl, refl);
       together = rw minutes lasts.0;

@@ -1,4 +1,4 @@
--- What the same steps add to the cost and the orders of two fronts at one place.
+-- What the same steps add to the cost and the orders of two partial duties at one place.
 use Rattle.std.proofs.Common.{◌≡◌, ℕ, ◌+◌, true, not, ◌&&◌, eqb, cond, List, [], ◌∷◌, ◌++◌, refl, ap, arith, ◌≤ℤ◌}
 use Rattle.std.proofs.lemmas.Int.{ints}
 use Rattle.minute_line.specs.Marks.{is_daily}
@@ -9,35 +9,35 @@ use Rattle.duty_plan.specs.declared.duties.Step.{Step}
 use Rattle.duty_plan.specs.declared.plans.Case.{Case}
 use Rattle.duty_plan.specs.declared.pricing.Prices.{Prices}
 use Rattle.duty_plan.specs.Acts.{cents_of_act, order_of_act}
-use Rattle.duty_plan.specs.Fronts.{Front, place_after}
+use Rattle.duty_plan.specs.PartialDuties.{PartialDuty, place_after}
 use Rattle.duty_plan.specs.Duties.{night_of, cents_after, cost_after, fee_or_none, orders_of, worth}
-use Rattle.duty_plan.specs.Values.{price_at, value_after}
+use Rattle.duty_plan.specs.Values.{price_at, reduced_cost}
 use Rattle.duty_plan.specs.Labels.{has_step}
 use Rattle.duty_plan.proofs.Sums.{worth-append}
 use Rattle.dominance.specs.Completions.{acts_of, with_ready, delayed}
 
 -- delayed steps do the same acts
-pub acts-delayed : (n : ℕ) (more : Front) → acts_of (delayed n more) ≡ acts_of more
+pub acts-delayed : (n : ℕ) (more : PartialDuty) → acts_of (delayed n more) ≡ acts_of more
 acts-delayed n [] = refl
 acts-delayed n (step ∷ []) = refl
 acts-delayed n (step ∷ (next ∷ more)) = ap (λ (x : List Act). step.act ∷ x) (acts-delayed n (next ∷ more))
 
 -- and serve the same orders
-pub orders-delayed : (n : ℕ) (more : Front) → orders_of (delayed n more) ≡ orders_of more
+pub orders-delayed : (n : ℕ) (more : PartialDuty) → orders_of (delayed n more) ≡ orders_of more
 orders-delayed n [] = refl
 orders-delayed n (step ∷ []) = refl
 orders-delayed n (step ∷ (next ∷ more)) = ap (λ (x : List ℕ). order_of_act step.act ++ x) (orders-delayed n (next ∷ more))
 
 -- from `better` to `first` the cents grow, and what the orders are worth, as from `worse` to `second`
-pub record AddsAlike (week : Week) (prices : Prices) (better worse first second : Front) : Type 0 where
+pub record AddsAlike (week : Week) (prices : Prices) (better worse first second : PartialDuty) : Type 0 where
   pub cents : cents_after week first + cents_after week worse ≡ cents_after week second + cents_after week better
   pub orders : worth (price_at prices) (orders_of first) + worth (price_at prices) (orders_of worse)
       ≡ worth (price_at prices) (orders_of second) + worth (price_at prices) (orders_of better)
 
-pub alike-none : (week : Week) (prices : Prices) (better worse : Front) → AddsAlike week prices better worse better worse
+pub alike-none : (week : Week) (prices : Prices) (better worse : PartialDuty) → AddsAlike week prices better worse better worse
 alike-none week prices better worse = record { cents = omega arith; orders = omega arith }
 
-pub alike-step : (week : Week) (prices : Prices) (n : ℕ) (step : Step) (better worse first second : Front) →
+pub alike-step : (week : Week) (prices : Prices) (n : ℕ) (step : Step) (better worse first second : PartialDuty) →
     place_after first ≡ place_after second → AddsAlike week prices better worse first second →
     AddsAlike week prices better worse (with_ready n step ∷ first) (step ∷ second)
 alike-step week prices n step better worse first second p a =
@@ -56,13 +56,13 @@ alike-step week prices n step better worse first second p a =
     }
 
 -- the fee is paid at the first step
-cost-paid : (case : Case) (driver : ℕ) (front : Front) → has_step front ≡ true →
-    cost_after case driver front ≡ fee_or_none (driver_of case.week driver) + cents_after case.week front
+cost-paid : (case : Case) (driver : ℕ) (partial : PartialDuty) → has_step partial ≡ true →
+    cost_after case driver partial ≡ fee_or_none (driver_of case.week driver) + cents_after case.week partial
 cost-paid case driver [] h = cc
 cost-paid case driver (step ∷ before) h = refl
 
 -- the cost of the steps is the same
-pub alike-cost : (case : Case) (driver : ℕ) (prices : Prices) (better worse first second : Front) →
+pub alike-cost : (case : Case) (driver : ℕ) (prices : Prices) (better worse first second : PartialDuty) →
     has_step better ≡ true → has_step worse ≡ true → has_step first ≡ true → has_step second ≡ true →
     AddsAlike case.week prices better worse first second →
     cost_after case driver first + cost_after case driver worse ≡ cost_after case driver second + cost_after case driver better
@@ -77,9 +77,9 @@ alike-cost case driver prices better worse first second hb hw hf hs a =
     )
 
 -- and the value no larger, where it was no larger before them
-pub alike-value : (case : Case) (driver : ℕ) (prices : Prices) (better worse first second : Front) →
+pub alike-value : (case : Case) (driver : ℕ) (prices : Prices) (better worse first second : PartialDuty) →
     cost_after case driver first + cost_after case driver worse ≡ cost_after case driver second + cost_after case driver better →
     AddsAlike case.week prices better worse first second →
-    value_after case driver prices better ≤ℤ value_after case driver prices worse →
-    value_after case driver prices first ≤ℤ value_after case driver prices second
+    reduced_cost case driver prices better ≤ℤ reduced_cost case driver prices worse →
+    reduced_cost case driver prices first ≤ℤ reduced_cost case driver prices second
 alike-value case driver prices better worse first second cost a l = let orders = a.orders in omega (arith, ints)

@@ -11,7 +11,7 @@ use Rattle.hours_rules.specs.declared.clocks.Stay.{Stay}
 use Rattle.hours_rules.specs.Rules.{Past, fault, fault_from, first_of_two}
 use Rattle.hours_rules.specs.Standing.{Stands}
 use Rattle.hours_rules.specs.Going.{with_stay}
-use Rattle.hours_rules.specs.Order.{Together, IsBetterClock, IsEarlier, IsRested}
+use Rattle.hours_rules.specs.Order.{Together, ClockDominates, IsEarlier, IsRested}
 use Rattle.hours_rules.proofs.Faults.{stretch-add}
 use Rattle.hours_rules.proofs.Simulate.{simulate_minutes, judged_join, judged_parts}
 use Rattle.hours_rules.proofs.Waiting.{last_keeps_limits}
@@ -106,7 +106,7 @@ delayed_lasts past k stay mark n wa wb t ha hb =
 -- ---- the first line catches up
 
 -- a better clock is earlier, where both stand for lines of the same past that end on duty
-pub earlier : (a b : Clock) (past : Past) (wa wb : Minutes) → Stands a past wa → Stands b past wb → IsBetterClock a b →
+pub earlier : (a b : Clock) (past : Past) (wa wb : Minutes) → Stands a past wa → Stands b past wb → ClockDominates a b →
     a.off ≡ 0 → b.off ≡ 0 → IsEarlier a b
 earlier a b past wa wb sa sb h oa ob = record {
   at = h.at;
@@ -130,6 +130,8 @@ earlier a b past wa wb sa sb h oa ob = record {
     work_week = h.work_week;
     prev_drive = sa.prev_drive ∙ sym sb.prev_drive;
     work_before = sa.work_before ∙ sym sb.work_before;
+    owed = h.owed;
+    due = h.due;
   };
 }
 

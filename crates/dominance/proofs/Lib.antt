@@ -8,7 +8,11 @@ pub mod ShiftedRooms
 pub mod ShiftedLines
 pub mod ShiftedSteps
 pub mod ShiftedOffice
-pub mod ShiftedFronts
+pub mod ShiftedPartialDuties
 pub mod Shifting
 pub mod Among
 pub mod Filed
+pub mod Forgetting
+pub mod PricedOut
+pub mod Reaching
+pub mod ListsWithin

@@ -1,4 +1,4 @@
--- Steps with listed stays, in place of steps that follow another front which did the same.
+-- Steps with listed stays, in place of steps that follow another partial duty which did the same.
 use Rattle.std.proofs.Common.{◌≡◌, ℕ, ◌+◌, ◌-◌, ◌≤◌, Bool, true, false, ◌==◌, [], ◌∷◌, refl, arith, le-leb, Option, Some, None}
 use Rattle.std.proofs.lemmas.Bool.{leb-true, eqb-true}
 use Rattle.std.proofs.lemmas.Bool.Decides.{nat_tests}
@@ -14,7 +14,7 @@ use Rattle.duty_plan.specs.declared.duties.Act.TheVariants.{Leg, Serve, Load}
 use Rattle.duty_plan.specs.declared.duties.Step.{Step}
 use Rattle.duty_plan.specs.Acts.{may_start, is_open}
 use Rattle.duty_plan.specs.Duties.{cents_after}
-use Rattle.duty_plan.specs.Fronts.{Front, place_after, at_after, start_of, used_after, loaded_after, serves, has_lengths, ends_open, stays_well, KeepsOffice}
+use Rattle.duty_plan.specs.PartialDuties.{PartialDuty, place_after, at_after, start_of, used_after, loaded_after, serves, has_lengths, ends_open, has_lawful_length, KeepsOffice}
 use Rattle.duty_plan.specs.Labels.{opens_of, closes_of, listed_ready, is_listed}
 use Rattle.duty_plan.proofs.Runs.{both}
 
@@ -22,26 +22,26 @@ use Rattle.duty_plan.proofs.Runs.{both}
 abbrev pub with_minutes : ℕ → ℕ → Step → Step
 with_minutes ready off step = record step { stay = record { ready = ready; off = off; kind = step.stay.kind } }
 
--- a step with a Plain stay, listed after a front
-abbrev pub listed_plain : Week → Step → Front → Step
-listed_plain week step front = with_minutes (listed_ready week step front) step.stay.off step
+-- a step with a Plain stay, listed after a partial duty
+abbrev pub listed_plain : Week → Step → PartialDuty → Step
+listed_plain week step partial = with_minutes (listed_ready week step partial) step.stay.off step
 
--- a step with a rest, listed after a front, with the start that it has after another
-abbrev pub listed_rest : Week → Step → Front → Front → Step
-listed_rest week step old front = with_minutes 0 (start_of week step old - at_after week front) step
+-- a step with a rest, listed after a partial duty, with the start that it has after another
+abbrev pub listed_rest : Week → Step → PartialDuty → PartialDuty → Step
+listed_rest week step old partial = with_minutes 0 (start_of week step old - at_after week partial) step
 
--- two fronts did the same, the first by an earlier or equal minute
-pub record DidTheSame (week : Week) (open_off : ℕ) (front old : Front) : Type 0 where
-  pub early : at_after week front ≤ at_after week old
-  pub place : place_after front ≡ place_after old
-  pub used : used_after week front ≡ used_after week old
-  pub loaded : loaded_after front ≡ loaded_after old
-  pub served : (order : ℕ) → serves order front ≡ serves order old
-  pub cents : cents_after week front ≡ cents_after week old
-  pub begins : ends_open open_off front ≡ ends_open open_off old
+-- two partial duties did the same, the first by an earlier or equal minute
+pub record DidTheSame (week : Week) (open_off : ℕ) (partial old : PartialDuty) : Type 0 where
+  pub early : at_after week partial ≤ at_after week old
+  pub place : place_after partial ≡ place_after old
+  pub used : used_after week partial ≡ used_after week old
+  pub loaded : loaded_after partial ≡ loaded_after old
+  pub served : (order : ℕ) → serves order partial ≡ serves order old
+  pub cents : cents_after week partial ≡ cents_after week old
+  pub begins : ends_open open_off partial ≡ ends_open open_off old
 
-pub same-itself : (week : Week) (open_off : ℕ) (front : Front) → DidTheSame week open_off front front
-same-itself week open_off front = record {
+pub same-itself : (week : Week) (open_off : ℕ) (partial : PartialDuty) → DidTheSame week open_off partial partial
+same-itself week open_off partial = record {
   early = omega arith;
   place = refl;
   used = refl;
@@ -86,24 +86,24 @@ ready_for-opens week (Serve order) at old ready off l h =
     let w = in-window (order_of week order) (old + ready + off) h in
     opens-at (order_of week order) (old + ready + off) _ h (omega arith) (omega (arith, w.0, w.1))
 
-pub ready-early : (week : Week) (open_off capacity : ℕ) (step : Step) (front old : Front) → DidTheSame week open_off front old →
-    KeepsOffice week open_off capacity step old → at_after week front + listed_ready week step front ≤ at_after week old + step.stay.ready
-ready-early week open_off capacity step front old s k =
-    ready_for-early week step.act (at_after week front) (at_after week old) step.stay.ready step.stay.off s.early k.window
+pub ready-early : (week : Week) (open_off capacity : ℕ) (step : Step) (partial old : PartialDuty) → DidTheSame week open_off partial old →
+    KeepsOffice week open_off capacity step old → at_after week partial + listed_ready week step partial ≤ at_after week old + step.stay.ready
+ready-early week open_off capacity step partial old s k =
+    ready_for-early week step.act (at_after week partial) (at_after week old) step.stay.ready step.stay.off s.early k.window
 
-pub opens-plain : (week : Week) (open_off capacity : ℕ) (step : Step) (front old : Front) → DidTheSame week open_off front old →
-    KeepsOffice week open_off capacity step old → may_start week step.act (start_of week (listed_plain week step front) front) ≡ true
-opens-plain week open_off capacity step front old s k =
-    ready_for-opens week step.act (at_after week front) (at_after week old) step.stay.ready step.stay.off s.early k.window
+pub opens-plain : (week : Week) (open_off capacity : ℕ) (step : Step) (partial old : PartialDuty) → DidTheSame week open_off partial old →
+    KeepsOffice week open_off capacity step old → may_start week step.act (start_of week (listed_plain week step partial) partial) ≡ true
+opens-plain week open_off capacity step partial old s k =
+    ready_for-opens week step.act (at_after week partial) (at_after week old) step.stay.ready step.stay.off s.early k.window
 
 -- a rest that begins at once ends as late
-pub start-same : (week : Week) (step : Step) (front old : Front) → at_after week front ≤ at_after week old →
-    start_of week (listed_rest week step old front) front ≡ start_of week step old
-start-same week step front old l = omega arith
+pub start-same : (week : Week) (step : Step) (partial old : PartialDuty) → at_after week partial ≤ at_after week old →
+    start_of week (listed_rest week step old partial) partial ≡ start_of week step old
+start-same week step partial old l = omega arith
 
 -- ---- the lengths of its stay
 
-none_begins : (week : Week) (open_off : ℕ) (front : Front) → ends_open open_off front ≡ true → at_after week front ≡ 0
+none_begins : (week : Week) (open_off : ℕ) (partial : PartialDuty) → ends_open open_off partial ≡ true → at_after week partial ≡ 0
 none_begins week open_off [] h = refl
 none_begins week open_off (step ∷ before) h = cc
 
@@ -122,18 +122,18 @@ lengths-rest false Daily ready off k r h l = le-leb 1 k (omega (arith, leb-true 
 lengths-rest false Weekly ready off k r h l = le-leb 1 k (omega (arith, leb-true 1 off h))
 
 -- a listed Plain stay has no Ready minute after the history's open run, where nothing is earlier
-pub stays-plain : (week : Week) (open_off capacity : ℕ) (step : Step) (front old : Front) → DidTheSame week open_off front old →
-    KeepsOffice week open_off capacity step old → stays_well open_off (listed_plain week step front) old ≡ true
-stays-plain week open_off capacity step front old s k =
-    lengths-plain (ends_open open_off old) step.stay (listed_ready week step front) k.stay
-    (λ open_run none. omega (arith, ready-early week open_off capacity step front old s k, none, none_begins week open_off old open_run))
+pub stays-plain : (week : Week) (open_off capacity : ℕ) (step : Step) (partial old : PartialDuty) → DidTheSame week open_off partial old →
+    KeepsOffice week open_off capacity step old → has_lawful_length open_off (listed_plain week step partial) old ≡ true
+stays-plain week open_off capacity step partial old s k =
+    lengths-plain (ends_open open_off old) step.stay (listed_ready week step partial) k.stay
+    (λ open_run none. omega (arith, ready-early week open_off capacity step partial old s k, none, none_begins week open_off old open_run))
 
 -- a listed rest is no shorter
-pub stays-rest : (week : Week) (open_off capacity : ℕ) (step : Step) (front old : Front) → DidTheSame week open_off front old →
+pub stays-rest : (week : Week) (open_off capacity : ℕ) (step : Step) (partial old : PartialDuty) → DidTheSame week open_off partial old →
     KeepsOffice week open_off capacity step old → is_rest step.stay.kind ≡ true →
-    stays_well open_off (listed_rest week step old front) old ≡ true
-stays-rest week open_off capacity step front old s k r =
-    lengths-rest (ends_open open_off old) step.stay.kind step.stay.ready step.stay.off (start_of week step old - at_after week front)
+    has_lawful_length open_off (listed_rest week step old partial) old ≡ true
+stays-rest week open_off capacity step partial old s k r =
+    lengths-rest (ends_open open_off old) step.stay.kind step.stay.ready step.stay.off (start_of week step old - at_after week partial)
     r k.stay (omega (arith, s.early))
 
 -- ---- the stay is listed
@@ -141,10 +141,10 @@ stays-rest week open_off capacity step front old s k r =
 eqb-itself : (n : ℕ) → (n == n) ≡ true
 eqb-itself n = grind (arith, nat_tests)
 
-pub plain-listed : (week : Week) (step : Step) (front : Front) → is_rest step.stay.kind ≡ false →
-    is_listed week (listed_plain week step front) front ≡ true
-plain-listed week step front r = rw r (eqb-itself (listed_ready week step front))
+pub plain-listed : (week : Week) (step : Step) (partial : PartialDuty) → is_rest step.stay.kind ≡ false →
+    is_listed week (listed_plain week step partial) partial ≡ true
+plain-listed week step partial r = rw r (eqb-itself (listed_ready week step partial))
 
-pub rest-listed : (week : Week) (step : Step) (front old : Front) → is_rest step.stay.kind ≡ true →
-    is_listed week (listed_rest week step old front) front ≡ true
-rest-listed week step front old r = rw r refl
+pub rest-listed : (week : Week) (step : Step) (partial old : PartialDuty) → is_rest step.stay.kind ≡ true →
+    is_listed week (listed_rest week step old partial) partial ≡ true
+rest-listed week step partial old r = rw r refl

@@ -1,25 +1,25 @@
 -- The labels that are stored for a driver, and the labels that they better.
 use Rattle.std.specs.Prelude.{◌≡◌, ◌↔◌, ◌⊎◌, ℕ, true, length, Contains}
 use Rattle.duty_plan.specs.declared.labels.Label.{Label}
-use Rattle.duty_plan.specs.Labels.{IsBetter}
+use Rattle.duty_plan.specs.Labels.{Dominates}
 use Rattle.dominance.specs.declared.storing.Fronts.{Fronts}
 use Rattle.dominance.specs.Filing.{list_at}
 
 -- how many places have a list
-abbrev pub places_of : Fronts → ℕ
-places_of fronts = length fronts.by_place.items
+abbrev pub place_count : Fronts → ℕ
+place_count partials = length partials.by_place.items
 
 -- a label is held: it stands in the list of a place
 abbrev pub Holds : Fronts → Label → Type 0
-Holds fronts label = (place : ℕ) × Contains (list_at fronts.by_place.items place) label
+Holds partials label = (place : ℕ) × Contains (list_at partials.by_place.items place) label
 
 -- for so many places and these forced orders, given as bits
 abbrev pub IsFor : ℕ → ℕ → Fronts → Type 0
-IsFor places forced fronts = (places_of fronts ≡ places) × (fronts.forced ≡ forced)
+IsFor places forced partials = (place_count partials ≡ places) × (partials.forced ≡ forced)
 
 -- no label is held
 abbrev pub HoldsNone : Fronts → Type 0
-HoldsNone fronts = (label : Label) → Holds fronts label → ⊥
+HoldsNone partials = (label : Label) → Holds partials label → ⊥
 
 -- the same labels are held
 abbrev pub HoldsSame : Fronts → Fronts → Type 0
@@ -30,5 +30,5 @@ abbrev pub AddsLabel : Fronts → Fronts → Label → Type 0
 AddsLabel old new added = (label : Label) → Holds new label ↔ (Holds old label ⊎ (label ≡ added))
 
 -- a held label after at least one act betters a label
-abbrev pub IsBettered : Fronts → Label → Type 0
-IsBettered fronts label = (held : Label) × Holds fronts held × (held.fee_paid ≡ true) × IsBetter held label fronts.forced
+abbrev pub IsDominated : Fronts → Label → Type 0
+IsDominated partials label = (held : Label) × Holds partials held × (held.fee_paid ≡ true) × Dominates held label partials.forced

@@ -9,7 +9,10 @@ mod storing;
 #[cfg(test)]
 mod tests;
 
-pub use comparing::better;
-pub use laws::{shift, simulate};
+pub use comparing::{better, better_within};
+pub use laws::{
+    bettered_may_be_forgotten, exhausted_labels_price_out, lists_within, reach, shift, simulate,
+    simulate_within,
+};
 pub use making::make_fronts;
 pub use storing::Fronts;

@@ -7,8 +7,8 @@ use minute_line::{Many, Memory};
 use std::alloc::Global;
 
 /// Room for a driver's labels at so many places, without a label yet; the forced orders are bits, order n the bit n.
-pub fn make_fronts(alloc: Global, places: u32, forced: u64) -> Result<Fronts, Memory>
-    ensures { IfOk result (λ fronts. HoldsNone fronts × IsFor places forced fronts) }
+pub fn make_fronts(alloc: Global, places: u32, forced: u128) -> Result<Fronts, Memory>
+    ensures { IfOk result (λ partials. HoldsNone partials × IsFor places forced partials) }
 {
     let mut by_place = Vec::with_capacity(alloc, places as usize)?;
     for _ in 0..places {

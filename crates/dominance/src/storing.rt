@@ -12,19 +12,19 @@ pub struct Fronts {
     /// A list for each place: the labels at that place, in the order in which they were stored.
     pub(crate) by_place: Vec<Many<Label>>,
     /// The orders that are forced for the driver; order n is the bit n.
-    pub(crate) forced: u64,
+    pub(crate) forced: u128,
     ghost filed: { AreFiled by_place.items },
 }
 
 impl Fronts {
-    ghost use Rattle.dominance.specs.Storing.{places_of, IsFor, HoldsSame, AddsLabel, IsBettered};
+    ghost use Rattle.dominance.specs.Storing.{place_count, IsFor, HoldsSame, AddsLabel, IsDominated};
 
     /// Stores a label. Where memory wants, the labels stay as they were.
     pub fn store(&mut self, label: Label) -> Result<(), Memory>
-        requires { label.place < places_of self.old }
+        requires { label.place < place_count self.old }
         ensures ok { OnOk result (AddsLabel self.old self.new label) }
         ensures err { OnErr result (HoldsSame self.old self.new) }
-        ensures same { IsFor (places_of self.old) self.old.forced self.new }
+        ensures same { IsFor (place_count self.old) self.old.forced self.new }
     {
         self.by_place[label.place as usize].push(label)
     }
@@ -34,7 +34,7 @@ impl Fronts {
     /// none. The time grows with the labels at its place.
     #[inline(never)]
     pub fn bettered(&self, label: &Label) -> bool
-        ensures { result ≡ true ↔ IsBettered self.now label.now }
+        ensures { result ≡ true ↔ IsDominated self.now label.now }
     {
         let Some(list) = self.by_place.get(label.place as usize) else {
             return false;

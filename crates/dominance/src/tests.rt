@@ -1,6 +1,6 @@
 // Labels that differ in one field, and stored labels. What is expected follows from the definition of better, by hand.
 use self::Field::*;
-use crate::{better, make_fronts};
+use crate::{better, better_within, make_fronts};
 use duty_plan::Label;
 use hours_rules::Clock;
 use std::test::Fail;
@@ -24,6 +24,8 @@ const CLOCK: Clock = Clock {
     work_week: 15,
     prev_drive: 0,
     work_before: 0,
+    owed: 0,
+    due: 0,
     half: false,
     split: false,
 };
@@ -60,8 +62,9 @@ enum Field {
     WorkWeek(u32),
     PrevDrive(u32),
     WorkBefore(u32),
+    Debt(u32, i32),
     Place(u32),
-    Served(u64),
+    Served(u128),
     Used(u32),
     Loaded(bool),
     FeePaid(bool),
@@ -90,6 +93,10 @@ fn with(field: Field) -> Label {
         WorkWeek(it) => label.clock.work_week = it,
         PrevDrive(it) => label.clock.prev_drive = it,
         WorkBefore(it) => label.clock.work_before = it,
+        Debt(owed, due) => {
+            label.clock.owed = owed;
+            label.clock.due = due;
+        }
         Place(it) => label.place = it,
         Served(it) => label.served = it,
         Used(it) => label.used = it,
@@ -101,7 +108,7 @@ fn with(field: Field) -> Label {
 }
 
 /// Two labels that differ in one field, and whether each betters the other where order 1 is forced.
-const PAIRS: [(Field, Field, bool, bool); 34] = [
+const PAIRS: [(Field, Field, bool, bool); 41] = [
     (At(16), At(15), false, true),
     (DayFrom(-1), DayFrom(0), false, true),
     (RestFrom(-1), RestFrom(0), false, true),
@@ -120,6 +127,11 @@ const PAIRS: [(Field, Field, bool, bool); 34] = [
     (PauseDay(0), PauseDay(1), false, true),
     (DriveWeek(1), DriveWeek(0), false, true),
     (WorkWeek(16), WorkWeek(15), false, true),
+    (Debt(1, 10_080), Debt(0, 0), false, true),
+    (Debt(2, 10_080), Debt(1, 10_080), false, true),
+    (Debt(1, 10_080), Debt(1, 20_160), false, true),
+    (Debt(1, 10_080), Debt(2, 20_160), false, false),
+    (Debt(0, 0), Debt(0, 10_080), true, true),
     (Off(0), Off(1), true, true),
     (PrevDrive(0), PrevDrive(1), true, true),
     (WorkBefore(0), WorkBefore(1), true, true),
@@ -136,6 +148,8 @@ const PAIRS: [(Field, Field, bool, bool); 34] = [
     (Served(0b001), Served(0b011), false, false),
     (Served(0b011), Served(0b010), false, true),
     (Served(1 << 63), Served(0), false, true),
+    (Served(1 << 64), Served(1 << 63), false, false),
+    (Served(1 << 119 | 1 << 64), Served(1 << 119), false, true),
 ];
 
 #[test]
@@ -149,6 +163,38 @@ fn a_field_counts_in_its_own_direction(rt: HostRuntime) {
     }
 }
 
+/// Served orders of two labels, a reach, and whether each betters the other within it where order 1 is forced.
+const REACHES: [(u128, u128, u128, bool, bool); 10] = [
+    (0b101, 0b001, 0b100, false, true),
+    (0b101, 0b001, 0b011, true, true),
+    (0b101, 0b1001, 0b0100, false, true),
+    (0b101, 0b1001, 0b1000, true, false),
+    (0b101, 0b1001, 0b1100, false, false),
+    (0b101, 0b1001, 0, true, true),
+    (0b011, 0b001, 0, false, false),
+    (1 << 63, 0, !0, false, true),
+    (1 << 64 | 1, 1, 1 << 64, false, true),
+    (1 << 119 | 1, 1, 1 << 64, true, true),
+];
+
+#[test]
+fn an_order_out_of_reach_is_ignored(rt: HostRuntime) {
+    for (one, other, reach, forwards, backwards) in REACHES {
+        let a = with(Served(one));
+        let b = with(Served(other));
+        assert_eq!(rt;
+            better_within(&a, &b, 0b010, reach),
+            forwards,
+            "{one:b} {other:b} {reach:b}"
+        );
+        assert_eq!(rt;
+            better_within(&b, &a, 0b010, reach),
+            backwards,
+            "{other:b} {one:b} {reach:b}"
+        );
+    }
+}
+
 #[test]
 fn a_stored_label_after_an_act_betters(rt: HostRuntime) -> Result<(), Fail> {
     let other_half = Label {
@@ -158,14 +204,17 @@ fn a_stored_label_after_an_act_betters(rt: HostRuntime) -> Result<(), Fail> {
         },
         ..LOAD
     };
-    let mut fronts = make_fronts(rt.alloc(), 1, 0)?;
-    assert!(rt; !fronts.bettered(&LOAD), "nothing is stored");
-    fronts.store(LOAD)?;
-    assert!(rt; fronts.bettered(&LOAD), "itself");
-    assert!(rt; !fronts.bettered(&other_half), "the other half");
-    assert!(rt; !fronts.bettered(&with(Place(1))), "a place without a list");
-    fronts.store(other_half)?;
-    assert!(rt; fronts.bettered(&other_half), "by the second alone");
+    let mut partials = make_fronts(rt.alloc(), 1, 0)?;
+    assert!(rt; !partials.bettered(&LOAD), "nothing is stored");
+    partials.store(LOAD)?;
+    assert!(rt; partials.bettered(&LOAD), "itself");
+    assert!(rt; !partials.bettered(&other_half), "the other half");
+    assert!(rt;
+        !partials.bettered(&with(Place(1))),
+        "a place without a list"
+    );
+    partials.store(other_half)?;
+    assert!(rt; partials.bettered(&other_half), "by the second alone");
     Ok(())
 }
 
@@ -175,9 +224,9 @@ fn a_stored_label_of_no_act_betters_nothing(rt: HostRuntime) -> Result<(), Fail>
         fee_paid: false,
         ..LOAD
     };
-    let mut fronts = make_fronts(rt.alloc(), 1, 0)?;
-    fronts.store(empty)?;
+    let mut partials = make_fronts(rt.alloc(), 1, 0)?;
+    partials.store(empty)?;
     assert!(rt; better(&empty, &LOAD, 0));
-    assert!(rt; !fronts.bettered(&LOAD));
+    assert!(rt; !partials.bettered(&LOAD));
     Ok(())
 }
