@@ -1,0 +1,11 @@
+pub mod Counts
+pub mod Claiming
+pub mod Splitting
+pub mod Joining
+pub mod Returning
+pub mod Seating
+pub mod Rows
+pub mod Giving
+pub mod Ends
+pub mod Placed
+pub mod Machine
