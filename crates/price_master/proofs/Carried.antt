@@ -3,9 +3,9 @@ use Rattle.std.proofs.Common.{◌≡◌, ◌≢◌, ◌||◌, ◌⊎◌, inl, in
 use Rattle.duty_plan.specs.declared.duties.Act.{Act}
 use Rattle.duty_plan.specs.declared.duties.Act.TheVariants.{Leg, Serve, Load}
 use Rattle.duty_plan.specs.declared.duties.Duty.{Duty}
-use Rattle.duty_plan.specs.Fronts.{Front, serves}
+use Rattle.duty_plan.specs.PartialDuties.{PartialDuty, serves}
 use Rattle.duty_plan.specs.Acts.{serves_order, order_of_act}
-use Rattle.duty_plan.specs.Duties.{times, carried, orders_of, front_of}
+use Rattle.duty_plan.specs.Duties.{times, carried, orders_of, partial_of}
 use Rattle.duty_plan.proofs.Sums.{times-append}
 
 served_act : (o : ℕ) (act : Act) → serves_order o act ≡ true → times o (order_of_act act) ≡ 1
@@ -17,8 +17,8 @@ pub or_cases : (a b : Bool) → (a || b) ≡ true → (a ≡ true) ⊎ ((a ≡ f
 or_cases true b h = inl refl
 or_cases false b h = inr (refl, h)
 
--- a front that serves an order carries it
-pub served : (o : ℕ) (front : Front) → serves o front ≡ true → 1 ≤ times o (orders_of front)
+-- a partial duty that serves an order carries it
+pub served : (o : ℕ) (partial : PartialDuty) → serves o partial ≡ true → 1 ≤ times o (orders_of partial)
 served o [] h = cc
 served o (step ∷ before) h = by_cases (or_cases _ _ h) (λ b. served o before b)
   where
@@ -27,33 +27,33 @@ served o (step ∷ before) h = by_cases (or_cases _ _ h) (λ b. served o before 
     by_cases (inl g) more = omega (arith, times-append o (order_of_act step.act) (orders_of before), served_act o step.act g)
     by_cases (inr g) more = let m = more g.1 in omega (arith, times-append o (order_of_act step.act) (orders_of before), m)
 
-pub served_by : (o k : ℕ) (duties : List Duty) (duty : Duty) → slice_get duties k ≡ Some duty → serves o (front_of duty) ≡ true →
+pub served_by : (o k : ℕ) (duties : List Duty) (duty : Duty) → slice_get duties k ≡ Some duty → serves o (partial_of duty) ≡ true →
     1 ≤ times o (carried duties)
 served_by o k [] duty h s = cc
 served_by o zero (first ∷ rest) duty h s =
     let same : first ≡ duty = cc in
-    let here : serves o (front_of first) ≡ true = ap (λ (d : Duty). serves o (front_of d)) same ∙ s in
-    omega (arith, times-append o (orders_of (front_of first)) (carried rest), served o (front_of first) here)
+    let here : serves o (partial_of first) ≡ true = ap (λ (d : Duty). serves o (partial_of d)) same ∙ s in
+    omega (arith, times-append o (orders_of (partial_of first)) (carried rest), served o (partial_of first) here)
 served_by o (suc k) (first ∷ rest) duty h s =
-    omega (arith, times-append o (orders_of (front_of first)) (carried rest), served_by o k rest duty h s)
+    omega (arith, times-append o (orders_of (partial_of first)) (carried rest), served_by o k rest duty h s)
 
 -- an order that two drivers' duties serve is carried twice
 pub served_twice : (o k j : ℕ) (duties : List Duty) (d e : Duty) → k ≢ j → slice_get duties k ≡ Some d → slice_get duties j ≡ Some e →
-    serves o (front_of d) ≡ true → serves o (front_of e) ≡ true → 2 ≤ times o (carried duties)
+    serves o (partial_of d) ≡ true → serves o (partial_of e) ≡ true → 2 ≤ times o (carried duties)
 served_twice o k j [] d e n h i s t = cc
 served_twice o zero zero (first ∷ rest) d e n h i s t = absurd (n refl)
 served_twice o zero (suc j) (first ∷ rest) d e n h i s t =
     let same : first ≡ d = cc in
-    let here : serves o (front_of first) ≡ true = ap (λ (x : Duty). serves o (front_of x)) same ∙ s in
-    omega (arith, times-append o (orders_of (front_of first)) (carried rest), served o (front_of first) here, served_by o j rest e i t)
+    let here : serves o (partial_of first) ≡ true = ap (λ (x : Duty). serves o (partial_of x)) same ∙ s in
+    omega (arith, times-append o (orders_of (partial_of first)) (carried rest), served o (partial_of first) here, served_by o j rest e i t)
 served_twice o (suc k) zero (first ∷ rest) d e n h i s t =
     let same : first ≡ e = cc in
-    let here : serves o (front_of first) ≡ true = ap (λ (x : Duty). serves o (front_of x)) same ∙ t in
-    omega (arith, times-append o (orders_of (front_of first)) (carried rest), served o (front_of first) here, served_by o k rest d h s)
+    let here : serves o (partial_of first) ≡ true = ap (λ (x : Duty). serves o (partial_of x)) same ∙ t in
+    omega (arith, times-append o (orders_of (partial_of first)) (carried rest), served o (partial_of first) here, served_by o k rest d h s)
 served_twice o (suc k) (suc j) (first ∷ rest) d e n h i s t =
     omega (
       arith,
-      times-append o (orders_of (front_of first)) (carried rest),
+      times-append o (orders_of (partial_of first)) (carried rest),
       served_twice o k j rest d e (λ same. n (ap suc same)) h i s t,
     )
 

@@ -9,9 +9,9 @@ use Rattle.duty_plan.specs.declared.deciding.Pairs.{Pairs}
 use Rattle.duty_plan.specs.declared.deciding.Pair.{Pair}
 use Rattle.duty_plan.specs.declared.deciding.Pair.TheVariants.{Free, Forced, Barred}
 use Rattle.duty_plan.specs.declared.pricing.Prices.{Prices}
-use Rattle.duty_plan.specs.Fronts.{serves}
-use Rattle.duty_plan.specs.Duties.{times, worth, carried, orders_of, front_of, price_of, cost_of_duties, cost_of_plan, IsLawfulPlan}
-use Rattle.duty_plan.specs.Values.{all_below, charge, or_zero, sum_of, lagrangian, is_barred, barred_for_all, pair_at, price_at, value_after, IsDecided, IsLeast}
+use Rattle.duty_plan.specs.PartialDuties.{serves}
+use Rattle.duty_plan.specs.Duties.{times, worth, carried, orders_of, partial_of, price_of, cost_of_duties, cost_of_plan, IsLawfulPlan}
+use Rattle.duty_plan.specs.Values.{all_below, lagrangian_term, or_zero, sum_of, lagrangian, is_barred, barred_for_all, pair_at, price_at, reduced_cost, IsDecided, IsLeast}
 use Rattle.duty_plan.specs.Sums.{total_below}
 use Rattle.price_master.specs.Laws.{ForcesOnce, IsLeastPlan}
 use Rattle.duty_plan.proofs.Sums.{worth-append, share, share-none, share-one, total-same, total-add, total-share}
@@ -25,16 +25,16 @@ use Rattle.price_master.proofs.Once.{carried-known, carried-once, listed-known}
 -- the drivers' least values and the prices of what the duties carry are the duties' cost
 duties_same : (case : Case) (prices : Prices) (n : ℕ) (duties : List Duty) (least : List ℤ) → length least ≡ length duties →
     ((m k : ℕ) (duty : Duty) (v : ℤ) → m ≡ n + k → slice_get duties k ≡ Some duty → slice_get least k ≡ Some v →
-    value_after case m prices (front_of duty) ≡ v) →
+    reduced_cost case m prices (partial_of duty) ≡ v) →
     (sum_of least +ℤ pos (worth (price_at prices) (carried duties))) ≡ pos (cost_of_duties case n duties)
 duties_same case prices n [] [] same at = refl
 duties_same case prices n [] (v ∷ vs) same at = absurd (omega arith)
 duties_same case prices n (duty ∷ rest) [] same at = absurd (omega arith)
 duties_same case prices n (duty ∷ rest) (v ∷ vs) same at =
-    let here : value_after case n prices (front_of duty) ≡ v = at n 0 duty v (omega arith) refl refl in
+    let here : reduced_cost case n prices (partial_of duty) ≡ v = at n 0 duty v (omega arith) refl refl in
     let more : (sum_of vs +ℤ pos (worth (price_at prices) (carried rest))) ≡ pos (cost_of_duties case (n + 1) rest) =
     duties_same case prices (n + 1) rest vs (omega arith) (λ m k d w e s t. at m (suc k) d w (omega arith) s t) in
-    omega (arith, ints, worth-append (price_at prices) (orders_of (front_of duty)) (carried rest))
+    omega (arith, ints, worth-append (price_at prices) (orders_of (partial_of duty)) (carried rest))
 
 some-not : (test : ℕ → Bool) (n : ℕ) → all_below test n ≡ false → (k : ℕ) × (k < n) × (test k ≡ false)
 some-not test zero h = cc
@@ -61,7 +61,7 @@ is_exact case pairs prices least plan decided forces_once is = (lawful, value)
     below : (k : ℕ) (duty : Duty) → slice_get plan.duties k ≡ Some duty → k < length case.week.drivers
     below k duty e = omega (arith, slice_get-lt plan.duties k duty e, is.duties)
 
-    unbarred : (k o : ℕ) (duty : Duty) → o < length case.week.orders → slice_get plan.duties k ≡ Some duty → serves o (front_of duty) ≡ true →
+    unbarred : (k o : ℕ) (duty : Duty) → o < length case.week.orders → slice_get plan.duties k ≡ Some duty → serves o (partial_of duty) ≡ true →
         (p : Pair) → pair_at pairs k o ≡ p → pair_at pairs k o ≡ Forced
     unbarred k o duty l e s Free h = absurd (decided k o (below k duty e) l h)
     unbarred k o duty l e s Forced h = h
@@ -69,7 +69,7 @@ is_exact case pairs prices least plan decided forces_once is = (lawful, value)
 
     one : (o : ℕ) → o < length case.week.orders → times o (carried plan.duties) ≤ 1
     one o l = carried-once o plan.duties
-        (λ k duty e. served-once case.week _ _ o (front_of duty) (at k duty e).1.choice.lawful.front.office)
+        (λ k duty e. served-once case.week _ _ o (partial_of duty) (at k duty e).1.choice.lawful.partial.office)
         (λ j k d e h i s t. forces_once j k o (below j d h) (below k e i) l
         (unbarred j o d l h s (pair_at pairs j o) refl) (unbarred k o e l i t (pair_at pairs k o) refl))
 
@@ -99,11 +99,11 @@ is_exact case pairs prices least plan decided forces_once is = (lawful, value)
         served_by o k plan.duties found.0 found.1 ((at k found.0 found.1).1.choice.inside.forced o l h)
 
     charged : (o : ℕ) → o < length case.week.orders →
-        charge case.week pairs prices o ≡ share (price_at prices) o (carried plan.duties) + share (price_of case.week) o plan.out
+        lagrangian_term case.week pairs prices o ≡ share (price_at prices) o (carried plan.duties) + share (price_of case.week) o plan.out
     charged o l = by_bar (barred_for_all case.week pairs o) refl
       where
         by_bar : (b : Bool) → barred_for_all case.week pairs o ≡ b →
-            charge case.week pairs prices o ≡ share (price_at prices) o (carried plan.duties) + share (price_of case.week) o plan.out
+            lagrangian_term case.week pairs prices o ≡ share (price_at prices) o (carried plan.duties) + share (price_of case.week) o plan.out
         by_bar true e =
             let none : times o (carried plan.duties) ≡ 0 =
             uncarried o plan.duties (λ k duty h. (at k duty h).1.choice.inside.barred o l
@@ -126,24 +126,24 @@ is_exact case pairs prices least plan decided forces_once is = (lawful, value)
     value : lagrangian case.week pairs prices least ≡ cost_of_plan case plan
     value =
         let n = length case.week.orders in
-        let charges : total_below (charge case.week pairs prices) n ≡
+        let lagrangian_terms : total_below (lagrangian_term case.week pairs prices) n ≡
         total_below (λ o. share (price_at prices) o (carried plan.duties) + share (price_of case.week) o plan.out) n =
         total-same _ _ n charged in
         let duties : (sum_of least +ℤ pos (worth (price_at prices) (carried plan.duties))) ≡ pos (cost_of_duties case 0 plan.duties) =
         duties_same case prices 0 plan.duties least (is.values ∙ sym is.duties) (λ m k duty v e s t. at_driver m k duty v e s t) in
-        let whole : (pos (total_below (charge case.week pairs prices) n) +ℤ sum_of least) ≡ pos (cost_of_plan case plan) =
+        let whole : (pos (total_below (lagrangian_term case.week pairs prices) n) +ℤ sum_of least) ≡ pos (cost_of_plan case plan) =
         omega (
           arith,
           ints,
           total-add (λ o. share (price_at prices) o (carried plan.duties)) (λ o. share (price_of case.week) o plan.out) n,
           total-share (price_at prices) n (carried plan.duties)
-              (λ o some. carried-known o n plan.duties (λ k duty e. served-known case.week _ _ o (front_of duty) (at k duty e).1.choice.lawful.front.office) some),
+              (λ o some. carried-known o n plan.duties (λ k duty e. served-known case.week _ _ o (partial_of duty) (at k duty e).1.choice.lawful.partial.office) some),
           total-share (price_of case.week) n plan.out (listed-known (length case.week.orders) plan.out is.known),
         ) in
         ap or_zero whole
       where
         at_driver : (m k : ℕ) (duty : Duty) (v : ℤ) → m ≡ 0 + k → slice_get plan.duties k ≡ Some duty → slice_get least k ≡ Some v →
-            value_after case m prices (front_of duty) ≡ v
+            reduced_cost case m prices (partial_of duty) ≡ v
         at_driver m k duty v e s t =
             let same : k ≡ m = omega arith in
             (is.each m v duty (ap (slice_get least) (sym same) ∙ t) (ap (slice_get plan.duties) (sym same) ∙ s)).has_value

@@ -1,19 +1,19 @@
 -- Laws on the Lagrangian value: it is below the plans inside, it is a plan's cost where all is decided, and it never falls.
-use Rattle.std.specs.Prelude.{◌≡◌, ℕ, ◌+◌, ◌<◌, ◌≤◌, ◌==◌, if◌then◌else◌, List, ◌∷◌, length, ℤ, Some, slice_get}
+use Rattle.std.specs.Prelude.{◌≡◌, ℕ, ◌+◌, ◌<◌, ◌≤◌, ◌==◌, if◌then◌else◌, List, ◌∷◌, length, ℤ, pos, ◌+ℤ◌, Some, slice_get}
 use Rattle.week_book.specs.declared.weeks.Week.{Week}
 use Rattle.duty_plan.specs.declared.duties.Duty.{Duty}
 use Rattle.duty_plan.specs.declared.plans.Case.{Case}
 use Rattle.duty_plan.specs.declared.plans.Plan.{Plan}
-use Rattle.duty_plan.specs.declared.deciding.Pair.TheVariants.{Free, Forced}
+use Rattle.duty_plan.specs.declared.deciding.Pair.TheVariants.{Free, Forced, Barred}
 use Rattle.duty_plan.specs.declared.deciding.Pairs.{Pairs}
 use Rattle.duty_plan.specs.declared.pricing.Prices.{Prices}
 use Rattle.duty_plan.specs.declared.nodes.Decision.{Decision}
 use Rattle.duty_plan.specs.declared.nodes.Decision.TheVariants.{Root, Forced as forces, Barred as bars}
-use Rattle.duty_plan.specs.Fronts.{serves}
-use Rattle.duty_plan.specs.Duties.{IsLawfulPlan, cost_after, cost_of_plan, front_of, price_of, times, carried, EachOf}
-use Rattle.duty_plan.specs.Values.{IsPrices, IsPlanInside, AreLeastValues, lagrangian, ArePairsOf, decided_by, pair_at, IsDecided, IsLeast}
+use Rattle.duty_plan.specs.PartialDuties.{serves}
+use Rattle.duty_plan.specs.Duties.{IsLawfulPlan, cost_after, cost_of_plan, partial_of, price_of, times, carried, EachOf}
+use Rattle.duty_plan.specs.Values.{IsPrices, IsPlanInside, AreLeastValues, lagrangian, ArePairsOf, cost_of_all, decided_by, pair_at, IsDecided, IsLeast, reduced_cost}
 use Rattle.duty_plan.specs.Sums.{total_below}
-use Rattle.duty_plan.specs.Trees.{IsLonePlan}
+use Rattle.duty_plan.specs.Trees.{AreStartPrices, IsSingleDutyPlan}
 
 -- the Lagrangian value is at most the cost of every lawful plan inside
 abbrev pub IsBelowPlans : Type 0
@@ -26,6 +26,24 @@ abbrev pub DecidesFree : List Decision → Decision → Type 0
 DecidesFree path Root = ⊥
 DecidesFree path (forces driver order) = decided_by path driver order ≡ Free
 DecidesFree path (bars driver order) = decided_by path driver order ≡ Free
+
+-- the second pairs keep what the first decide: where the first say Forced or Barred, so do the second
+pub record Tightens (week : Week) (node below : Pairs) : Type 0 where
+  pub forced : (driver order : ℕ) → driver < length week.drivers → order < length week.orders → pair_at node driver order ≡ Forced →
+      pair_at below driver order ≡ Forced
+  pub barred : (driver order : ℕ) → driver < length week.drivers → order < length week.orders → pair_at node driver order ≡ Barred →
+      pair_at below driver order ≡ Barred
+
+-- a child keeps what its parent decides
+abbrev pub ChildTightens : Type 0
+ChildTightens = (case : Case) (path : List Decision) (decision : Decision) (node child : Pairs) → DecidesFree path decision →
+    ArePairsOf case.week path node → ArePairsOf case.week (decision ∷ path) child → Tightens case.week node child
+
+-- at the same prices, the Lagrangian value never falls from a node to any node that keeps what it decides
+abbrev pub NeverFallsBelow : Type 0
+NeverFallsBelow = (case : Case) (node below : Pairs) (prices : Prices) (least more : List ℤ) → Tightens case.week node below →
+    IsPrices case.week prices → AreLeastValues case node prices least → AreLeastValues case below prices more →
+    lagrangian case.week node prices least ≤ lagrangian case.week below prices more
 
 -- at the same prices, the Lagrangian value never falls from a node to its child
 abbrev pub NeverFalls : Type 0
@@ -60,10 +78,16 @@ IsExactWhenDecided = (case : Case) (pairs : Pairs) (prices : Prices) (least : Li
 -- what a plan of one duty is to cost: the duty, and what subcontractors take for the orders that it doesn't serve
 abbrev pub lone_cost : Case → ℕ → Duty → ℕ
 lone_cost case driver duty =
-    cost_after case driver (front_of duty) +
-    total_below (λ order. if serves order (front_of duty) then 0 else price_of case.week order) (length case.week.orders)
+    cost_after case driver (partial_of duty) +
+    total_below (λ order. if serves order (partial_of duty) then 0 else price_of case.week order) (length case.week.orders)
 
 -- a plan of one duty costs just that
 abbrev pub CostsAlone : Type 0
-CostsAlone = (case : Case) (driver : ℕ) (duty : Duty) (plan : Plan) → IsLonePlan case driver duty plan →
+CostsAlone = (case : Case) (driver : ℕ) (duty : Duty) (plan : Plan) → IsSingleDutyPlan case driver duty plan →
     cost_of_plan case plan ≡ lone_cost case driver duty
+
+-- at the start prices a plan of one duty costs what it costs to give all orders away, and the duty's value
+abbrev pub CostsAtStart : Type 0
+CostsAtStart = (case : Case) (driver : ℕ) (prices : Prices) (duty : Duty) (plan : Plan) → AreStartPrices case.week prices →
+    IsSingleDutyPlan case driver duty plan →
+    pos (cost_of_plan case plan) ≡ (pos (cost_of_all case.week) +ℤ reduced_cost case driver prices (partial_of duty))

@@ -1,1 +1,6 @@
 pub mod Laws
+pub mod Valuing
+pub mod Pools
+pub mod Bids
+pub mod Completing
+pub mod Placing

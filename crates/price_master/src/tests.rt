@@ -1,5 +1,5 @@
 // Prices that move, by hand.
-use crate::moved;
+use crate::subgradient_step;
 
 /// A round, what a subcontractor takes, the number of carriers, the price before and the price after, all in cents. The
 /// step is a quarter of what the subcontractor takes in round 0, an eighth in round 1, and at least a cent.
@@ -20,7 +20,7 @@ fn a_price_rises_where_nobody_carries_and_falls_where_two_do(rt: HostRuntime) {
     for (k, most, count, price, next) in MOVES {
         assert!(rt; most <= 100_000_000 && price <= most);
         assert_eq!(rt;
-            moved(k, most, count, price),
+            subgradient_step(k, most, count, price),
             next,
             "after round {k}: {price} of {most}, carried {count} times"
         );
