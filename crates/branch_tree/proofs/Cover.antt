@@ -14,7 +14,7 @@ use Rattle.duty_plan.specs.declared.plans.Plan.{Plan}
 use Rattle.duty_plan.specs.declared.pricing.Prices.{Prices}
 use Rattle.duty_plan.specs.declared.outcomes.State.{State}
 use Rattle.duty_plan.specs.declared.outcomes.State.TheVariants.{Proved, OpenLabels, OpenNodes}
-use Rattle.duty_plan.specs.Duties.{IsLawfulPlan, cost_of_plan, front_of}
+use Rattle.duty_plan.specs.Duties.{IsLawfulPlan, cost_of_plan, partial_of}
 use Rattle.duty_plan.specs.Values.{ArePairsOf, IsPlanInside, IsPrices, decided_by, pair_at}
 use Rattle.duty_plan.specs.Rounds.{Round}
 use Rattle.duty_plan.specs.Nodes.{IsNode, HasChildren, path_of}
@@ -69,7 +69,7 @@ inside-parent : (case : Case) (tree : List Node) (plan : Plan) (k : ℕ) (node :
     DecidesFree (path_of tree node.parent) node.decision → ArePairsOf case.week (path_of tree k) pairs → IsLawfulPlan case plan →
     InsideAt case tree plan k → InsideAt case tree plan node.parent
 inside-parent case tree plan k node pairs is l free p lawful inside at at_is j duty e =
-    stays-inside case (path_of tree node.parent) node.decision at pairs j (front_of duty)
+    stays-inside case (path_of tree node.parent) node.decision at pairs j (partial_of duty)
     (omega (arith, slice_get-lt plan.duties j duty e, lawful.duties)) free at_is
     (subst (λ (x : List Decision). ArePairsOf case.week x pairs) (path-node tree k node is l) p) (inside pairs p j duty e)
 

@@ -9,9 +9,9 @@ use Rattle.duty_plan.specs.declared.deciding.Pairs.{Pairs}
 use Rattle.duty_plan.specs.declared.plans.Plan.{Plan}
 use Rattle.duty_plan.specs.declared.pricing.Prices.{Prices}
 use Rattle.duty_plan.specs.Duties.{IsLawfulPlan, times, worth, price_of}
-use Rattle.duty_plan.specs.Values.{cost_of_all, charge, barred_for_all, or_zero}
+use Rattle.duty_plan.specs.Values.{cost_of_all, lagrangian_term, barred_for_all, or_zero}
 use Rattle.duty_plan.specs.Sums.{total_below}
-use Rattle.duty_plan.specs.Rounds.{Round, IsRound, IsRun, IsBest, IsFirstAt, is_whole, has_none, value_of_round}
+use Rattle.duty_plan.specs.Rounds.{Round, IsRound, ArePricingRounds, IsBest, IsFirstAt, is_whole, has_none, value_of_round}
 use Rattle.duty_plan.specs.Trees.{HasRun, IsRight, IsLimits, EndsEmpty, BeatsDuties}
 use Rattle.duty_plan.proofs.OneNode.{closed_root, one_node_of, one_node}
 use Rattle.duty_plan.proofs.Sums.{total-same}
@@ -63,13 +63,13 @@ lawful case none = record {
 
 value : (case : Case) (pairs : Pairs) → length case.week.drivers ≡ 0 → value_of_round case.week pairs (round_of_case case) ≡ cost_of_all case.week
 value case pairs none =
-    let charges : total_below (charge case.week pairs (start_of_case case)) (length case.week.orders) ≡ cost_of_all case.week =
+    let lagrangian_terms : total_below (lagrangian_term case.week pairs (start_of_case case)) (length case.week.orders) ≡ cost_of_all case.week =
     total-same _ _ (length case.week.orders) (λ o l. charged o) in
-    let whole : (pos (total_below (charge case.week pairs (start_of_case case)) (length case.week.orders)) +ℤ pos 0) ≡ pos (cost_of_all case.week) =
+    let whole : (pos (total_below (lagrangian_term case.week pairs (start_of_case case)) (length case.week.orders)) +ℤ pos 0) ≡ pos (cost_of_all case.week) =
     omega (arith, ints) in
     ap or_zero whole
   where
-    charged : (o : ℕ) → charge case.week pairs (start_of_case case) o ≡ price_of case.week o
+    charged : (o : ℕ) → lagrangian_term case.week pairs (start_of_case case) o ≡ price_of case.week o
     charged o = let all : barred_for_all case.week pairs o ≡ true = rw none refl in rw all refl
 
 abbrev pairs_of_case : Case → Pairs
@@ -106,7 +106,7 @@ best case none = record {
     })
 
 run : (case : Case) (limits : Limits) (m : ℕ) → IsLimits limits → length case.week.drivers ≡ 0 →
-    IsRun m case limits.rounds (pairs_of_case case) (cost_of_all case.week) 0 (cost_of_all case.week) (start_of_case case) (start_of_case case) (round_of_case case ∷ [])
+    ArePricingRounds m case limits.rounds (pairs_of_case case) (cost_of_all case.week) 0 (cost_of_all case.week) (start_of_case case) (start_of_case case) (round_of_case case ∷ [])
 run case limits m l none = record {
   some = (omega arith, l.rounds.0);
   begins = begins;

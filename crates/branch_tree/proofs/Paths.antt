@@ -12,10 +12,10 @@ get-last [] x y (suc n) e h = absurd (omega arith)
 get-last (z ∷ xs) x y zero e h = absurd (omega arith)
 get-last (z ∷ xs) x y (suc n) e h = get-last xs x y n (omega arith) h
 
-get-front : {X : Type 0} (xs : List X) (x y : X) (n : ℕ) → n < length xs → slice_get (xs ++ x ∷ []) n ≡ Some y → slice_get xs n ≡ Some y
-get-front [] x y n l h = absurd (omega arith)
-get-front (z ∷ xs) x y zero l h = h
-get-front (z ∷ xs) x y (suc n) l h = get-front xs x y n (omega arith) h
+get-partial : {X : Type 0} (xs : List X) (x y : X) (n : ℕ) → n < length xs → slice_get (xs ++ x ∷ []) n ≡ Some y → slice_get xs n ≡ Some y
+get-partial [] x y n l h = absurd (omega arith)
+get-partial (z ∷ xs) x y zero l h = h
+get-partial (z ∷ xs) x y (suc n) l h = get-partial xs x y n (omega arith) h
 
 skip : (x : Node) (older : List Node) (p : ℕ) → p < length older + 1 → path_in (x ∷ older) p ≡ path_in older p
 skip x older p l = let e : eqb p (length older + 1) ≡ false = grind (arith, nat_tests) in rw e refl
@@ -42,7 +42,7 @@ path-newest (x ∷ older) k node one h l =
         let small : pred k < length older =
         omega (arith, slice_get-lt (reverse older ++ x ∷ []) (pred k) node there, length-append (reverse older) (x ∷ []), length-reverse older) in
         let before : path_in (x ∷ older) node.parent ≡ path_in older node.parent = skip x older node.parent (omega arith) in
-        rw (e, before) (more (get-front (reverse older) x node (pred k) (omega (arith, length-reverse older)) there))
+        rw (e, before) (more (get-partial (reverse older) x node (pred k) (omega (arith, length-reverse older)) there))
 
 pub path-node : (tree : List Node) (k : ℕ) (node : Node) → IsNode tree k node → node.parent < k →
     path_of tree k ≡ node.decision ∷ path_of tree node.parent

@@ -6,7 +6,7 @@ use Rattle.duty_plan.specs.declared.plans.Plan.{Plan}
 use Rattle.duty_plan.specs.declared.pricing.Prices.{Prices}
 use Rattle.duty_plan.specs.Duties.{IsLawfulPlan, cost_of_plan}
 use Rattle.duty_plan.specs.Values.{IsPlanInside, IsPrices, lagrangian}
-use Rattle.duty_plan.specs.Rounds.{Round, IsRun, IsFirstAt, values_of}
+use Rattle.duty_plan.specs.Rounds.{Round, ArePricingRounds, IsFirstAt, values_of}
 use Rattle.duty_plan.proofs.Lists.{slice_get-lt}
 use Rattle.price_master.proofs.Duality.{is_below}
 use Rattle.price_master.proofs.Carried.{get-below}
@@ -14,7 +14,7 @@ use Rattle.price_master.proofs.Whole.{whole-values, next-prices}
 
 -- the prices of all rounds stay within their limits
 pub run-prices : (m : ℕ) (case : Case) (most : ℕ) (pairs : Pairs) (cost first bound : ℕ) (before kept : Prices) (rounds : List Round) →
-    IsRun m case most pairs cost first bound before kept rounds → IsPrices case.week before → (k : ℕ) (round : Round) →
+    ArePricingRounds m case most pairs cost first bound before kept rounds → IsPrices case.week before → (k : ℕ) (round : Round) →
     slice_get rounds k ≡ Some round → IsPrices case.week round.prices
 run-prices m case most pairs cost first bound before kept rounds r p zero round e =
     subst (λ (x : Prices). IsPrices case.week x) (sym (r.begins round e)) p
@@ -25,7 +25,7 @@ run-prices m case most pairs cost first bound before kept rounds r p (suc k) rou
 
 -- the prices that a node keeps are within their limits
 pub kept-prices : (m : ℕ) (case : Case) (most : ℕ) (pairs : Pairs) (cost first bound : ℕ) (before kept : Prices) (rounds : List Round) →
-    IsRun m case most pairs cost first bound before kept rounds → IsPrices case.week before → IsPrices case.week kept
+    ArePricingRounds m case most pairs cost first bound before kept rounds → IsPrices case.week before → IsPrices case.week kept
 kept-prices m case most pairs cost first bound before kept rounds r p = by_from r.best.from
   where
     by_from : ((bound ≡ first) × (kept ≡ before)) ⊎ IsFirstAt case.week pairs rounds first bound kept → IsPrices case.week kept
@@ -35,7 +35,7 @@ kept-prices m case most pairs cost first bound before kept rounds r p = by_from 
 
 -- a bound that came from its rounds, or from its parent, is at most the cost of a plan inside
 pub bound-below : (m : ℕ) (case : Case) (most : ℕ) (pairs : Pairs) (cost first bound : ℕ) (before kept : Prices) (rounds : List Round) (plan : Plan) →
-    IsRun m case most pairs cost first bound before kept rounds → IsPrices case.week before → first ≤ cost_of_plan case plan →
+    ArePricingRounds m case most pairs cost first bound before kept rounds → IsPrices case.week before → first ≤ cost_of_plan case plan →
     IsLawfulPlan case plan → IsPlanInside case.week pairs plan → bound ≤ cost_of_plan case plan
 bound-below m case most pairs cost first bound before kept rounds plan r p l lawful inside = by_from r.best.from
   where

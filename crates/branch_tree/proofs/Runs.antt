@@ -4,11 +4,11 @@ use Rattle.duty_plan.specs.declared.plans.Case.{Case}
 use Rattle.duty_plan.specs.declared.deciding.Pairs.{Pairs}
 use Rattle.duty_plan.specs.declared.pricing.Prices.{Prices}
 use Rattle.duty_plan.specs.Values.{IsDecided}
-use Rattle.duty_plan.specs.Rounds.{Round, IsRun}
+use Rattle.duty_plan.specs.Rounds.{Round, ArePricingRounds}
 
 -- only the end of a run speaks of the cost
 pub keeps_runs : (m : ℕ) (case : Case) (most : ℕ) (pairs : Pairs) (cost less first bound : ℕ) (before kept : Prices) (rounds : List Round) →
-    less ≤ cost → IsRun m case most pairs cost first bound before kept rounds → IsRun m case most pairs less first bound before kept rounds
+    less ≤ cost → ArePricingRounds m case most pairs cost first bound before kept rounds → ArePricingRounds m case most pairs less first bound before kept rounds
 keeps_runs m case most pairs cost less first bound before kept rounds l r = record {
   some = r.some;
   begins = r.begins;

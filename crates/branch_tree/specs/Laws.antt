@@ -14,7 +14,7 @@ use Rattle.duty_plan.specs.declared.outcomes.Limits.{Limits}
 use Rattle.duty_plan.specs.declared.outcomes.Outcome.{Outcome}
 use Rattle.duty_plan.specs.Duties.{IsLawfulPlan, cost_of_plan}
 use Rattle.duty_plan.specs.Values.{IsPlanInside, ArePairsOf, pair_at}
-use Rattle.duty_plan.specs.Rounds.{Round, IsRun}
+use Rattle.duty_plan.specs.Rounds.{Round, ArePricingRounds}
 use Rattle.duty_plan.specs.Nodes.{IsNode, IsTree, path_of}
 use Rattle.duty_plan.specs.Trees.{IsRight, IsLimits}
 use Rattle.price_master.specs.Laws.{ForcesOnce}
@@ -40,7 +40,7 @@ NodesForceOnce = (week : Week) (tree : List Node) (k : ℕ) (node : Node) (pairs
 -- a run towards a cost is one towards any smaller cost
 abbrev pub KeepsRuns : Type 0
 KeepsRuns = (m : ℕ) (case : Case) (most : ℕ) (pairs : Pairs) (cost less first bound : ℕ) (before kept : Prices) (rounds : List Round) →
-    less ≤ cost → IsRun m case most pairs cost first bound before kept rounds → IsRun m case most pairs less first bound before kept rounds
+    less ≤ cost → ArePricingRounds m case most pairs cost first bound before kept rounds → ArePricingRounds m case most pairs less first bound before kept rounds
 
 -- no lawful plan costs less than the bound of a right outcome
 abbrev pub IsNoCheaper : Type 0

@@ -1,1 +1,11 @@
 pub mod Laws
+pub mod Growth
+pub mod GrowthLaws
+pub mod Running
+pub mod Paths
+pub mod Leaving
+pub mod Searching
+pub mod Keeping
+pub mod Taking
+pub mod PathLaws
+pub mod Reaching

@@ -1,0 +1,117 @@
+-- Which node and which pair come first.
+use Rattle.std.proofs.Common.{◌≡◌, ◌≢◌, ◌⊎◌, inl, inr, ℕ, zero, suc, pred, ◌+◌, ◌<◌, ◌≤◌, Bool, true, false, List, length, get_or, refl, ap, sym, subst, ◌∙◌, arith, Option, Some, None, slice_get}
+use Rattle.std.proofs.lemmas.Option.{slice_get_read}
+use Rattle.duty_plan.specs.declared.nodes.Node.{Node}
+use Rattle.duty_plan.specs.declared.nodes.NodeState.TheVariants.{Open}
+use Rattle.duty_plan.specs.Nodes.{IsNode}
+use Rattle.duty_plan.proofs.Lists.{slice_get-lt}
+use Rattle.price_master.proofs.Lookups.{same-or-not, at-most}
+use Rattle.branch_tree.specs.Searching.{IsNextNode, HasNoNext}
+
+-- of the first n nodes, the open leaf of the least bound below the cost, the first of that bound
+pub record IsBest (cost : ℕ) (tree : List Node) (n least number : ℕ) : Type 0 where
+  pub node : Node
+  pub place : ℕ
+  pub is_number : number ≡ suc place
+  pub early : place < n
+  pub there : slice_get tree place ≡ Some node
+  pub open_leaf : node.state ≡ Open
+  pub bound : node.bound ≡ least
+  pub below : least < cost
+  pub first : (k : ℕ) (other : Node) → k < n → slice_get tree k ≡ Some other → other.state ≡ Open → (least < other.bound) ⊎ ((least ≡ other.bound) × (place ≤ k))
+
+abbrev pub IsBestSoFar : ℕ → List Node → ℕ → ℕ → Option ℕ → Type 0
+IsBestSoFar cost tree n least None =
+    (least ≡ cost) × ((k : ℕ) (other : Node) → k < n → slice_get tree k ≡ Some other → other.state ≡ Open → cost ≤ other.bound)
+IsBestSoFar cost tree n least (Some number) = IsBest cost tree n least number
+
+low : (cost : ℕ) (tree : List Node) (n least : ℕ) (best : Option ℕ) → IsBestSoFar cost tree n least best →
+    (k : ℕ) (other : Node) → k < n → slice_get tree k ≡ Some other → other.state ≡ Open → least ≤ other.bound
+low cost tree n least None b k other l h s = omega (arith, b.0, b.1 k other l h s)
+low cost tree n least (Some number) b k other l h s = by_first (b.first k other l h s)
+  where
+    by_first : (least < other.bound) ⊎ ((least ≡ other.bound) × (b.place ≤ k)) → least ≤ other.bound
+    by_first (inl g) = omega arith
+    by_first (inr g) = omega (arith, g.0)
+
+-- a better one
+pub better : (cost : ℕ) (tree : List Node) (n least : ℕ) (best : Option ℕ) (node : Node) → IsBestSoFar cost tree n least best → slice_get tree n ≡ Some node →
+    node.bound < least → least ≤ cost → node.state ≡ Open → IsBestSoFar cost tree (n + 1) node.bound (Some (n + 1))
+better cost tree n least best node b h l c s = record {
+  node = node;
+  place = n;
+  is_number = omega arith;
+  early = omega arith;
+  there = h;
+  open_leaf = s;
+  bound = refl;
+  below = omega arith;
+  first = λ k other lk hk sk. by_place k other hk sk (same-or-not k n) lk;
+}
+  where
+    by_place : (k : ℕ) (other : Node) → slice_get tree k ≡ Some other → other.state ≡ Open → (k ≡ n) ⊎ (k ≢ n) → k < n + 1 →
+        (node.bound < other.bound) ⊎ ((node.bound ≡ other.bound) × (n ≤ k))
+    by_place k other hk sk (inl e) lk =
+        let at : slice_get tree n ≡ Some other = ap (slice_get tree) (sym e) ∙ hk in
+        let same : node ≡ other = cc in
+        inr (ap (λ (x : Node). x.bound) same, omega arith)
+    by_place k other hk sk (inr e) lk =
+        let small : k < n = omega arith in
+        inl (omega (arith, low cost tree n least best b k other small hk sk))
+
+-- no better one
+pub no-better : (cost : ℕ) (tree : List Node) (n least : ℕ) (best : Option ℕ) (node : Node) → IsBestSoFar cost tree n least best → slice_get tree n ≡ Some node →
+    (node.state ≡ Open → least ≤ node.bound) → IsBestSoFar cost tree (n + 1) least best
+no-better cost tree n least None node b h f = (b.0, λ k other lk hk sk. by_place k other lk hk sk (same-or-not k n))
+  where
+    by_place : (k : ℕ) (other : Node) → k < n + 1 → slice_get tree k ≡ Some other → other.state ≡ Open → (k ≡ n) ⊎ (k ≢ n) → cost ≤ other.bound
+    by_place k other lk hk sk (inl e) =
+        let at : slice_get tree n ≡ Some other = ap (slice_get tree) (sym e) ∙ hk in
+        let same : node ≡ other = cc in
+        let bounds = ap (λ (x : Node). x.bound) same in
+        omega (arith, b.0, f (ap (λ (x : Node). x.state) same ∙ sk))
+    by_place k other lk hk sk (inr e) = b.1 k other (omega arith) hk sk
+no-better cost tree n least (Some number) node b h f = record {
+  node = b.node;
+  place = b.place;
+  is_number = b.is_number;
+  early = omega (arith, b.early);
+  there = b.there;
+  open_leaf = b.open_leaf;
+  bound = b.bound;
+  below = b.below;
+  first = λ k other lk hk sk. by_place k other lk hk sk (same-or-not k n);
+}
+  where
+    by_place : (k : ℕ) (other : Node) → k < n + 1 → slice_get tree k ≡ Some other → other.state ≡ Open → (k ≡ n) ⊎ (k ≢ n) →
+        (least < other.bound) ⊎ ((least ≡ other.bound) × (b.place ≤ k))
+    by_place k other lk hk sk (inl e) =
+        let at : slice_get tree n ≡ Some other = ap (slice_get tree) (sym e) ∙ hk in
+        let same : node ≡ other = cc in
+        let bounds = ap (λ (x : Node). x.bound) same in
+        let high = f (ap (λ (x : Node). x.state) same ∙ sk) in
+        by_bound (at-most other.bound least) high bounds
+      where
+        by_bound : (other.bound ≤ least) ⊎ (least < other.bound) → least ≤ node.bound → node.bound ≡ other.bound →
+            (least < other.bound) ⊎ ((least ≡ other.bound) × (b.place ≤ k))
+        by_bound (inl l) high e2 = inr (omega arith, omega (arith, b.early))
+        by_bound (inr l) high e2 = inl l
+    by_place k other lk hk sk (inr e) = b.first k other (omega arith) hk sk
+
+-- after all nodes
+pub next-of : (cost : ℕ) (tree : List Node) (n least number : ℕ) → length tree ≤ n → IsBest cost tree n least number → IsNextNode cost tree number
+next-of cost tree n least number all b = record {
+  node = b.node;
+  is_node = (omega (arith, b.is_number), ap (λ k. slice_get tree (pred k)) b.is_number ∙ b.there);
+  open_leaf = b.open_leaf;
+  below = omega (arith, b.bound, b.below);
+  next = λ j other is s l. turn j other is (b.first (pred j) other (omega (arith, slice_get-lt tree (pred j) other is.1)) is.1 s);
+}
+  where
+    turn : (j : ℕ) (other : Node) → IsNode tree j other → (least < other.bound) ⊎ ((least ≡ other.bound) × (b.place ≤ pred j)) →
+        (b.node.bound < other.bound) ⊎ ((b.node.bound ≡ other.bound) × (number ≤ j))
+    turn j other is (inl h) = inl (omega (arith, b.bound))
+    turn j other is (inr h) = inr (b.bound ∙ h.0, omega (arith, h.1, b.is_number, is.0))
+
+pub none-of : (cost : ℕ) (tree : List Node) (n least : ℕ) → length tree ≤ n → IsBestSoFar cost tree n least None → HasNoNext cost tree
+none-of cost tree n least all b k node is s = b.1 (pred k) node (omega (arith, slice_get-lt tree (pred k) node is.1)) is.1 s

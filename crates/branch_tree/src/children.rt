@@ -1,0 +1,93 @@
+// The two children of a node.
+ghost use Rattle.std.specs.Prelude.{◌≡◌, ℕ, ◌+◌, ◌≤◌, ◌++◌, ◌∷◌, [], List, length, IfOk, Some, slice_get};
+ghost use Rattle.duty_plan.specs.declared.nodes.Node.{Node as GhostNode};
+ghost use Rattle.duty_plan.specs.Duties.{IsCase};
+ghost use Rattle.duty_plan.specs.Nodes.{IsNode};
+ghost use Rattle.duty_plan.specs.Values.{IsPrices};
+ghost use Rattle.duty_plan.specs.LabelLists.{chunks_for};
+ghost use Rattle.duty_plan.specs.Trees.{IsLimits};
+ghost use Rattle.price_master.specs.Pools.{IsPool};
+ghost use Rattle.branch_tree.specs.Growth.{IsKept, branched_at};
+ghost use Rattle.branch_tree.specs.Paths.{HasEarlierParents};
+ghost use Rattle.branch_tree.specs.Searching.{IsNextNode, IsSearching};
+
+use crate::choosing::next_pair;
+use crate::keeping::Kept;
+use crate::pairing::{pairs_of, pairs_under};
+use crate::rounds::{Leaf, run_node};
+use duty_plan::{Case, Decision, Limits, Node, Pricer};
+use minute_line::{Many, Memory};
+use std::alloc::Global;
+use std::thread::Threads;
+
+/// The children of the node of that number, each after its rounds: the forcing one, then the barring one.
+pub(crate) fn children<R: Threads + Sync, P: Pricer>(
+    rt: &R,
+    alloc: Global,
+    case: &Case,
+    limits: &Limits,
+    pricer: &mut P,
+    kept: &mut Kept,
+    tree: &[Node],
+    counts: &[Many<u32>],
+    number: u32,
+) -> Result<(Leaf, Leaf), Memory>
+    requires case { IsCase case.now }
+    requires limits { IsLimits limits.now }
+    requires chunks { P.chunks pricer.old ≡ chunks_for limits.now.labels }
+    requires kept { IsKept case.now kept.old.plan kept.old.cost }
+    requires pool { IsPool case.now kept.old.pool }
+    requires number { (1 ≤ number) × (number ≤ length tree.now) }
+    requires parents { HasEarlierParents tree.now }
+    requires priced { (k : ℕ) (node : GhostNode) → IsNode tree.now k node → IsPrices case.now.week node.prices }
+    requires as_many { length counts.now ≡ length tree.now }
+    requires counted { (n : ℕ) (count : List ℕ) → slice_get counts.now n ≡ Some count → length count ≡ length case.now.week.orders }
+    requires search { IsSearching case.now limits.now kept.old.plan kept.old.cost tree.now counts.now }
+    requires next { IsNextNode kept.old.cost tree.now number }
+    requires room { length tree.now + 2 ≤ limits.now.nodes }
+    ensures grows { IfOk result (λ leaves. (node : GhostNode) → IsNode tree.now number node →
+        IsSearching case.now limits.now kept.new.plan kept.new.cost (branched_at tree.now number kept.old.cost node leaves.0.node leaves.1.node)
+        (counts.now ++ leaves.0.counts ∷ leaves.1.counts ∷ [])) }
+    ensures kept { IsKept case.now kept.new.plan kept.new.cost }
+    ensures falls { kept.new.cost ≤ kept.old.cost }
+    ensures pool { IsPool case.now kept.new.pool }
+    ensures chunks { P.chunks pricer.new ≡ P.chunks pricer.old }
+{
+    let node = &tree[number as usize - 1];
+    let count = &counts[number as usize - 1];
+    let here = pairs_of(alloc, &case.week, tree, number)?;
+    let Some((driver, order)) = next_pair(&case.week, &here, count.as_slice()) else {
+        unreachable!()
+    };
+    let force = Decision::Forced(driver, order);
+    let bar = Decision::Barred(driver, order);
+    let forced = pairs_under(alloc, &case.week, tree, number, force)?;
+    let barred = pairs_under(alloc, &case.week, tree, number, bar)?;
+    let one = run_node(
+        rt,
+        alloc,
+        case,
+        limits,
+        pricer,
+        kept,
+        &forced,
+        node.bound,
+        &node.prices,
+        number,
+        force,
+    )?;
+    let two = run_node(
+        rt,
+        alloc,
+        case,
+        limits,
+        pricer,
+        kept,
+        &barred,
+        node.bound,
+        &node.prices,
+        number,
+        bar,
+    )?;
+    Ok((one, two))
+}

@@ -1,0 +1,109 @@
+// The rounds of a node.
+ghost use Rattle.std.specs.Prelude.{◌≡◌, ℕ, ◌≤◌, IfOk};
+ghost use Rattle.duty_plan.specs.Duties.{IsCase};
+ghost use Rattle.duty_plan.specs.Values.{IsPairs, IsPrices};
+ghost use Rattle.duty_plan.specs.LabelLists.{chunks_for};
+ghost use Rattle.duty_plan.specs.Trees.{IsLimits};
+ghost use Rattle.price_master.specs.Laws.{ForcesOnce};
+ghost use Rattle.price_master.specs.Pools.{IsPool};
+ghost use Rattle.branch_tree.specs.Growth.{IsKept};
+ghost use Rattle.branch_tree.specs.Leaving.{HasRan};
+
+use crate::answers::{counts, has_none, is_whole, values};
+use crate::keeping::Kept;
+use crate::leaves::{copied, evens, is_decided, state_of};
+use crate::taking::take_round;
+use duty_plan::{Case, Decision, Limits, Node, Pairs, Pricer, Prices};
+use minute_line::{Many, Memory};
+use price_master::{lagrange, next_prices};
+use std::alloc::Global;
+use std::thread::Threads;
+
+/// A leaf, and a number for each order that isn't 1 where the order is uneven after its rounds.
+#[derive(Drop)]
+pub(crate) struct Leaf {
+    pub node: Node,
+    pub counts: Many<u32>,
+}
+
+/// Runs the rounds of a node from its parent's bound and prices, at the pairs of its path.
+pub(crate) fn run_node<R: Threads + Sync, P: Pricer>(
+    rt: &R,
+    alloc: Global,
+    case: &Case,
+    limits: &Limits,
+    pricer: &mut P,
+    kept: &mut Kept,
+    pairs: &Pairs,
+    first: u64,
+    before: &Prices,
+    parent: u32,
+    decision: Decision,
+) -> Result<Leaf, Memory>
+    requires case { IsCase case.now }
+    requires limits { IsLimits limits.now }
+    requires chunks { P.chunks pricer.old ≡ chunks_for limits.now.labels }
+    requires pairs { IsPairs case.now.week pairs.now }
+    requires prices { IsPrices case.now.week before.now }
+    requires once { ForcesOnce case.now.week pairs.now }
+    requires kept { IsKept case.now kept.old.plan kept.old.cost }
+    requires pool { IsPool case.now kept.old.pool }
+    ensures ran { IfOk result (λ leaf. HasRan case.now limits.now kept.new.cost pairs.now first before.now leaf.node leaf.counts) }
+    ensures parent { IfOk result (λ leaf. leaf.node.parent ≡ parent) }
+    ensures decision { IfOk result (λ leaf. leaf.node.decision ≡ decision) }
+    ensures prices { IfOk result (λ leaf. IsPrices case.now.week leaf.node.prices) }
+    ensures kept { IsKept case.now kept.new.plan kept.new.cost }
+    ensures falls { kept.new.cost ≤ kept.old.cost }
+    ensures pool { IsPool case.now kept.new.pool }
+    ensures chunks { P.chunks pricer.new ≡ P.chunks pricer.old }
+{
+    let decided = is_decided(&case.week, pairs);
+    let mut bound = first;
+    let mut prices = copied(alloc, before)?;
+    let mut now = copied(alloc, before)?;
+    let mut carried = evens(alloc, &case.week)?;
+    let mut k = 0;
+    loop {
+        let answers = pricer.round(rt, alloc, case, pairs, &now)?;
+        if !is_whole(answers.as_slice()) {
+            let state = state_of(has_none(answers.as_slice()), kept.cost <= bound, decided);
+            let node = Node {
+                parent,
+                decision,
+                prices,
+                bound,
+                seen: 0,
+                state,
+            };
+            return Ok(Leaf {
+                node,
+                counts: carried,
+            });
+        }
+        take_round(alloc, case, kept, answers.as_slice())?;
+        let least = values(alloc, answers.as_slice())?;
+        carried = counts(alloc, &case.week, answers.as_slice())?;
+        let value = lagrange(&case.week, pairs, &now, &least);
+        if value > bound {
+            bound = value;
+            prices = copied(alloc, &now)?;
+        }
+        if k + 1 == limits.rounds || decided || kept.cost <= bound {
+            let state = state_of(false, kept.cost <= bound, decided);
+            let node = Node {
+                parent,
+                decision,
+                prices,
+                bound,
+                seen: 0,
+                state,
+            };
+            return Ok(Leaf {
+                node,
+                counts: carried,
+            });
+        }
+        next_prices(&case.week, &mut now, &carried, k);
+        k += 1;
+    }
+}

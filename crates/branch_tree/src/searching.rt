@@ -1,0 +1,81 @@
+// The search.
+ghost use Rattle.std.specs.Prelude.{◌≡◌, IfOk};
+ghost use Rattle.duty_plan.specs.Duties.{IsCase};
+ghost use Rattle.duty_plan.specs.LabelLists.{chunks_for};
+ghost use Rattle.duty_plan.specs.Trees.{IsLimits, IsRight};
+ghost use Rattle.duty_plan.specs.declared.outcomes.State.TheVariants.{Proved};
+ghost use Rattle.branch_tree.specs.Reaching.{IsWithinReach};
+
+use crate::children::children;
+use crate::choosing::next_node;
+use crate::ending::{finish, turned_node};
+use crate::keeping::first_kept;
+use crate::pairing::pairs_under;
+use crate::rounds::run_node;
+use duty_plan::{Case, Decision, Limits, Outcome, Pricer};
+use minute_line::{Many, Memory};
+use price_master::start_prices;
+use std::alloc::Global;
+use std::thread::Threads;
+
+/// Searches for a cheap plan of the case, within the limits: a lawful plan at its cost, a bound that no lawful plan beats,
+/// and the tree that shows it. Limits with nodes and labels enough for every tree and pricing leave the cost proved.
+pub fn search<R: Threads + Sync, P: Pricer>(
+    rt: &R,
+    alloc: Global,
+    case: &Case,
+    limits: &Limits,
+    pricer: &mut P,
+) -> Result<Outcome, Memory>
+    requires case { IsCase case.now }
+    requires limits { IsLimits limits.now }
+    requires chunks { P.chunks pricer.old ≡ chunks_for limits.now.labels }
+    ensures right { IfOk result (λ outcome. IsRight case.now limits.now outcome) }
+    ensures proved { IfOk result (λ outcome. IsWithinReach case.now limits.now → outcome.state ≡ Proved) }
+{
+    let mut kept = first_kept(alloc, case)?;
+    let prices = start_prices(alloc, &case.week)?;
+    let mut tree = Many::new(alloc);
+    let pairs = pairs_under(alloc, &case.week, tree.as_slice(), 0, Decision::Root)?;
+    let root = run_node(
+        rt,
+        alloc,
+        case,
+        limits,
+        pricer,
+        &mut kept,
+        &pairs,
+        0,
+        &prices,
+        0,
+        Decision::Root,
+    )?;
+    tree.push(root.node)?;
+    let mut counts = Many::new(alloc);
+    counts.push(root.counts)?;
+    while tree.len() + 2 <= limits.nodes as usize {
+        let Some(number) = next_node(tree.as_slice(), kept.cost) else {
+            return finish(alloc, kept, tree.as_slice());
+        };
+        let cost = kept.cost;
+        let (one, two) = children(
+            rt,
+            alloc,
+            case,
+            limits,
+            pricer,
+            &mut kept,
+            tree.as_slice(),
+            counts.as_slice(),
+            number,
+        )?;
+        let place = number as usize - 1;
+        let node = turned_node(alloc, &tree.as_slice()[place], cost)?;
+        tree.set(place, node);
+        tree.push(one.node)?;
+        tree.push(two.node)?;
+        counts.push(one.counts)?;
+        counts.push(two.counts)?;
+    }
+    finish(alloc, kept, tree.as_slice())
+}
