@@ -4,3 +4,4 @@ pub mod Lines
 pub mod Planning
 pub mod Books
 pub mod Checking
+pub mod Laws

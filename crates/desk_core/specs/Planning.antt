@@ -13,8 +13,8 @@ use Rattle.desk_core.specs.declared.refusals.Refusal.TheVariants as because
 use Rattle.desk_core.specs.Refusing.{◌>>=◌, refuse, rows_said}
 
 -- the history that a driver's rows make, or none where there are no such rows
-abbrev pub past_said : List Row → List ℕ → Result (Option Fields) Refusal
-past_said rows name = refuse (because.Past name) (history_in name rows)
+abbrev pub past_or_refusal : List Row → List ℕ → Result (Option Fields) Refusal
+past_or_refusal rows name = refuse (because.Past name) (history_in name rows)
 
 -- the histories of the drivers so far, and the first driver who has none
 pub record Gathered : Type 0 where
@@ -37,7 +37,11 @@ all_said g = elim g.missing [ Some name ↦ Err (because.NoHistory name) | None 
 -- the histories of more drivers: one that is refused comes before one that is missing
 abbrev pub pasts_said : List Row → Gathered → List Driver → Result Gathered Refusal
 pasts_said rows g [] = Ok g
-pasts_said rows g (d ∷ ds) = past_said rows d.name >>= λ past. pasts_said rows (with_driver g d.name past) ds
+pasts_said rows g (d ∷ ds) = past_or_refusal rows d.name >>= λ past. pasts_said rows (with_driver g d.name past) ds
+
+-- the history of each driver, in their order
+abbrev pub histories_said : List Row → List Driver → Result (List Fields) Refusal
+histories_said rows drivers = pasts_said rows nobody drivers >>= all_said
 
 -- a week, and the history of each of its drivers
 pub record Book : Type 0 where
@@ -49,8 +53,7 @@ abbrev pub case_said : List ℕ → Result Book Refusal
 case_said text = do
   rows ← rows_said Plan text
   week ← refuse because.Week (week_of rows)
-  gathered ← pasts_said rows nobody week.drivers
-  past ← all_said gathered
+  past ← histories_said rows week.drivers
   Ok (record { week = week; past = past })
 
 -- a week whose orders are all subcontracted: it has no drivers

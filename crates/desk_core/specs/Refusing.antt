@@ -1,6 +1,5 @@
 -- What a text comes to, or why it is refused.
 use Rattle.std.specs.Prelude.{◌≡◌, ⊤, ℕ, Result, Ok, Err, List}
-use Rattle.desk_csv.specs.declared.errors.CsvError.{CsvError}
 use Rattle.desk_csv.specs.declared.errors.Form.{Form}
 use Rattle.desk_csv.specs.Reading.{rows_of}
 use Rattle.week_book.specs.declared.rows.Row.{Row}

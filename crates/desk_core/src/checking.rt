@@ -1,14 +1,11 @@
 // The verdicts on what was driven.
 ghost use Rattle.std.specs.Prelude.{◌≡◌, ◌≤◌, [], length, option_map, IfOk, OnOk};
 ghost use Rattle.minute_line.specs.Writing.{with_words};
-ghost use Rattle.std.specs.Fmt.{decimal};
 ghost use Rattle.minute_line.specs.Histories.{fields_of};
 ghost use Rattle.minute_line.specs.Minutes.{total_of};
-ghost use Rattle.hours_rules.specs.Rules.{number_of};
 ghost use Rattle.week_book.specs.Pasts.{HasPastRows};
 ghost use Rattle.desk_core.specs.Refusing.{Meets};
-ghost use Rattle.desk_core.specs.Planning.{past_said};
-ghost use Rattle.desk_core.specs.Checking.{or_fresh, broken_words, line_said, verdict_said, verdict_line, driver_said, drivers_said, check_said};
+ghost use Rattle.desk_core.specs.Checking.{or_fresh, broken_words, line_or_refusal, verdict_line, driver_said, drivers_said, check_said};
 
 use crate::planning::past_in;
 use crate::refusals::{Stop, stop_line};
@@ -34,7 +31,7 @@ fn past_or_fresh(alloc: Global, past: Option<History>) -> History
 /// What a driver drove.
 fn line_in(alloc: Global, rows: &Many<Row>, name: &Name) -> Result<Line, Stop>
     requires { HasPastRows rows.now }
-    ensures line { Meets (λ line. line.stints) result (line_said rows.now name.now) }
+    ensures line { Meets (λ line. line.stints) result (line_or_refusal rows.now name.now) }
     ensures total { IfOk result (λ line. total_of line.stints ≤ 10080) }
 {
     match read_line(alloc, rows, name) {

@@ -2,11 +2,15 @@
 #![tactic(auto)]
 
 mod checking;
+mod laws;
 mod lines;
 mod planning;
 mod refusals;
 
 pub use checking::check_text;
+pub use laws::{
+    each_has_its_history, first_refused_is_told, first_without_is_named, lines_are_verdicts,
+};
 pub use lines::refusal_line;
-pub use planning::{Accepted, plan_text, read_case};
+pub use planning::{plan_text, read_case};
 pub use refusals::{Refusal, Stop};

@@ -1,31 +1,26 @@
 // The week of a week text, with its drivers' histories.
-ghost use Rattle.std.specs.Prelude.{◌≡◌, ◌≤◌, length, map, option_map, IfOk, OnOk, true};
+ghost use Rattle.std.specs.Prelude.{◌≡◌, ◌≤◌, length, map, option_map, IfOk, OnOk};
 ghost use Rattle.minute_line.specs.Histories.{fields_of};
 ghost use Rattle.week_book.specs.Pasts.{HasPastRows};
 ghost use Rattle.week_book.specs.Weeks.{IsWeek};
-ghost use Rattle.desk_core.specs.Refusing.{Meets, rows_said};
-ghost use Rattle.desk_core.specs.Planning.{past_said, pasts_said, all_said, nobody, with_driver, case_said, undriven, plan_said};
+ghost use Rattle.duty_plan.specs.Duties.{IsCase};
+ghost use Rattle.desk_core.specs.Refusing.{Meets};
+ghost use Rattle.desk_core.specs.Planning.{past_or_refusal, pasts_said, all_said, histories_said, nobody, with_driver, case_said, undriven, plan_said};
 ghost use Rattle.desk_core.specs.Books.{gathered, book, Reports};
 
 use crate::refusals::{Refusal, Stop, stop_past};
 use desk_csv::{Form, read_rows};
 use desk_report::report_out;
 use driver_history::read_past;
+use duty_plan::Case;
 use minute_line::{Bytes, History, Many, Memory, Name};
 use std::alloc::Global;
 use week_book::{Driver, Row, Week, check_week};
 
-/// A week, and the history of each of its drivers, in their order.
-#[derive(Drop)]
-pub struct Accepted {
-    pub week: Week,
-    pub past: Many<History>,
-}
-
 /// The history that a driver's rows make, or none where there are no such rows.
 pub(crate) fn past_in(alloc: Global, rows: &Many<Row>, name: &Name) -> Result<Option<History>, Stop>
     requires { HasPastRows rows.now }
-    ensures { Meets (λ past. option_map fields_of past) result (past_said rows.now name.now) }
+    ensures { Meets (λ past. option_map fields_of past) result (past_or_refusal rows.now name.now) }
 {
     match read_past(alloc, rows, name) {
         Ok(past) => Ok(past),
@@ -87,25 +82,35 @@ fn all_in(pasts: Pasts) -> Result<Many<History>, Stop>
     }
 }
 
-/// The week of a week text, with a history for each of its drivers.
-pub fn read_case(alloc: Global, text: &Bytes) -> Result<Accepted, Stop>
+/// The history of each driver, in their order.
+fn histories_in(alloc: Global, rows: &Many<Row>, drivers: &[Driver]) -> Result<Many<History>, Stop>
+    requires { HasPastRows rows.now }
+    ensures histories { Meets (λ past. map fields_of past) result (histories_said rows.now drivers.now) }
+    ensures each { IfOk result (λ past. length past ≡ length drivers.now) }
+{
+    let pasts = pasts_in(alloc, rows, drivers)?;
+    all_in(pasts)
+}
+
+/// The week of a week text, with a history for each of its drivers, in their order.
+pub fn read_case(alloc: Global, text: &Bytes) -> Result<Case, Stop>
     requires { length text.now ≤ 1048576 }
     ensures case { Meets book result (case_said text.now) }
-    ensures week { IfOk result (λ accepted. IsWeek accepted.week) }
+    ensures valid { IfOk result IsCase }
 {
     let rows = read_rows(alloc, text, Form::Plan)?;
     let week = check_week(alloc, &rows)?;
-    let pasts = pasts_in(alloc, &rows, week.drivers.as_slice())?;
-    let past = all_in(pasts)?;
-    Ok(Accepted { week, past })
+    let past = histories_in(alloc, &rows, week.drivers.as_slice())?;
+    Ok(Case { week, past })
 }
 
-/// The accepted week, where it has no drivers.
-fn undriven_week(accepted: Accepted) -> Result<Week, Stop>
-    ensures week { Meets (λ week. week) result (undriven accepted.week) }
-    ensures same { IfOk result (λ week. week ≡ accepted.week) }
+/// The week of a case without drivers.
+fn undriven_week(case: Case) -> Result<Week, Stop>
+    ensures week { Meets (λ week. week) result (undriven case.week) }
+    ensures same { IfOk result (λ week. week ≡ case.week) }
+    ensures undriven { IfOk result (λ week. length week.drivers ≡ 0) }
 {
-    let Accepted { week, past } = accepted;
+    let Case { week, past } = case;
     let _ = past;
     if week.drivers.is_empty() {
         Ok(week)
@@ -119,9 +124,10 @@ fn planned_week(alloc: Global, text: &Bytes) -> Result<Week, Stop>
     requires { length text.now ≤ 1048576 }
     ensures week { Meets (λ week. week) result (plan_said text.now) }
     ensures checked { IfOk result IsWeek }
+    ensures undriven { IfOk result (λ week. length week.drivers ≡ 0) }
 {
-    let accepted = read_case(alloc, text)?;
-    undriven_week(accepted)
+    let case = read_case(alloc, text)?;
+    undriven_week(case)
 }
 
 /// The report of a week text. The week has no drivers yet: one with drivers is refused, after all other refusals.

@@ -6,7 +6,6 @@ ghost use Rattle.desk_core.specs.Stops.{csv_stop, week_stop, past_stop, line_sto
 use desk_csv::CsvError;
 use driver_history::{HistoryError, LineError};
 use minute_line::{Memory, Name};
-use std::alloc::{AllocError, AllocFailed};
 use week_book::WeekError;
 
 /// Why a text is refused: the first cause, in the order in which they are written here. The errors inside are never
@@ -40,22 +39,6 @@ impl From<Memory> for Stop {
     ghost from_gives = { λ _ e. e ≡ WantOfMemory };
 
     fn from(_error: Memory) -> Stop {
-        Stop::Memory
-    }
-}
-
-impl From<AllocError> for Stop {
-    ghost from_gives = { λ _ e. e ≡ WantOfMemory };
-
-    fn from(_error: AllocError) -> Stop {
-        Stop::Memory
-    }
-}
-
-impl<T: Drop> From<AllocFailed<T>> for Stop {
-    ghost from_gives = { λ _ e. e ≡ WantOfMemory };
-
-    fn from(_error: AllocFailed<T>) -> Stop {
         Stop::Memory
     }
 }

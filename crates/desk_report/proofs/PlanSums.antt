@@ -1,89 +1,110 @@
--- Each order once: what the orders of a plan cost is what all orders cost.
-use Rattle.std.proofs.Common.{◌≡◌, ◌≢◌, refl, sym, ap, ◌∙◌, arith, ℕ, zero, suc, ◌+◌, ◌*◌, ◌<◌, ◌≤◌, cond, ◌==◌, List, [], ◌∷◌, ◌++◌, inl, inr, length, slice_get, All, sum_by, count_by}
-use Rattle.std.proofs.lemmas.Grind.{common_steps}
-use Rattle.std.proofs.lemmas.Bool.{cases_order}
-use Rattle.std.proofs.lemmas.List.Elements.{All-push}
-use Rattle.std.proofs.lemmas.List.Sums.{sum_by-cons, sum_by_push}
+-- A plan without duties names each order once, so it costs what all orders cost.
+use Rattle.std.proofs.Common.{◌≡◌, ◌≢◌, refl, sym, ap, ◌∙◌, arith, ℕ, zero, suc, ◌+◌, ◌<◌, ◌≤◌, Bool, true, false, List, [], ◌∷◌, map, length, slice_get, sum_by, eqb}
+use Rattle.std.specs.List.{range_with_len}
+use Rattle.std.specs.Option.{option_map_or}
+use Rattle.std.proofs.lemmas.Bool.Decides.{nat_tests}
+use Rattle.std.proofs.lemmas.List.Sums.{sum_by-cons}
 use Rattle.week_book.specs.declared.weeks.Order.{Order}
 use Rattle.week_book.specs.declared.weeks.Week.{Week}
-use Rattle.desk_report.specs.Plans.{price_in, IsOutPlan, cost_out, subcontracted, first_orders}
+use Rattle.duty_plan.specs.declared.duties.Duty.{Duty}
+use Rattle.duty_plan.specs.declared.plans.Case.{Case}
+use Rattle.duty_plan.specs.declared.plans.Plan.{Plan}
+use Rattle.duty_plan.specs.Duties.{EachOf, IsLawfulPlan, carried, cost_of_duties, cost_of_plan, price_of, price_or_none, times, worth}
+use Rattle.duty_plan.specs.Sums.{total_below}
+use Rattle.duty_plan.specs.Values.{cost_of_all}
+use Rattle.duty_plan.proofs.Sums.{share, share-one, total-share, total-same}
+use Rattle.desk_report.specs.Plans.{undriven_case, all_subcontracted}
+use Rattle.desk_report.specs.Reports.{out_line}
 
--- the sum of what the first n numbers weigh, each as often as it is counted
-abbrev weighed : ℕ → (ℕ → ℕ) → (ℕ → ℕ) → ℕ
-weighed zero c f = 0
-weighed (suc n) c f = c 0 * f 0 + weighed n (λ k. c (suc k)) (λ k. f (suc k))
+known_step : (n o x : ℕ) (xs : List ℕ) (b : Bool) → eqb o x ≡ b → x < n → times o (x ∷ xs) ≢ 0 → (times o xs ≢ 0 → o < n) → o < n
+known_step n o x xs true e below some more = let same : o ≡ x = grind (arith, nat_tests) in omega arith
+known_step n o x xs false e below some more = more (λ none. some (rw e (omega (arith, none))))
 
-weighed_same : (n : ℕ) (c d f : ℕ → ℕ) → ((k : ℕ) → k < n → d k ≡ c k) → weighed n d f ≡ weighed n c f
-weighed_same zero c d f h = refl
-weighed_same (suc n) c d f h = rw (h 0 (omega arith), weighed_same n (λ k. c (suc k)) (λ k. d (suc k)) (λ k. f (suc k)) (λ k lt. h (suc k) (omega arith))) refl
+-- an order that is named is one of so many
+known : (n o : ℕ) (xs : List ℕ) → EachOf (λ k order. order < n) xs → times o xs ≢ 0 → o < n
+known n o [] each some = absurd (some refl)
+known n o (x ∷ xs) each some =
+    known_step n o x xs (eqb o x) refl (each 0 x refl) some (known n o xs (λ k order h. each (suc k) order h))
 
-weighed_none : (n : ℕ) (f : ℕ → ℕ) → weighed n (λ _. 0) f ≡ 0
-weighed_none zero f = refl
-weighed_none (suc n) f = rw (weighed_none n (λ k. f (suc k))) (omega arith)
+-- each order once is worth what all orders are
+worth_all : (week : Week) (out : List ℕ) → ((order : ℕ) → order < length week.orders → times order out ≡ 1)
+    → EachOf (λ k order. order < length week.orders) out → worth (price_of week) out ≡ cost_of_all week
+worth_all week out once each =
+    sym (total-share (price_of week) (length week.orders) out (λ o some. known (length week.orders) o out each some))
+    ∙ total-same (λ o. share (price_of week) o out) (price_of week) (length week.orders) (λ o below. share-one (price_of week) o out (once o below))
 
--- one number is counted once more
-weighed_once : (n x : ℕ) (c d f : ℕ → ℕ) → x < n → d x ≡ c x + 1 → ((k : ℕ) → k < n → k ≢ x → d k ≡ c k) → weighed n d f ≡ f x + weighed n c f
-weighed_once zero x c d f lt more same = absurd (omega arith)
-weighed_once (suc n) zero c d f lt more same =
-    let first : d 0 * f 0 ≡ c 0 * f 0 + f 0 = rw more (grind arith) in
-    let rest = weighed_same n (λ k. c (suc k)) (λ k. d (suc k)) (λ k. f (suc k)) (λ k below. same (suc k) (omega arith) (λ e. omega (arith, e))) in
-    omega (arith, first, rest)
-weighed_once (suc n) (suc x) c d f lt more same =
-    let first : d 0 * f 0 ≡ c 0 * f 0 = rw (same 0 (omega arith) (λ e. omega (arith, e))) refl in
-    let rest = weighed_once n x (λ k. c (suc k)) (λ k. d (suc k)) (λ k. f (suc k)) (omega arith) more (λ k below other. same (suc k) (omega arith) (λ e. other (omega (arith, e)))) in
-    omega (arith, first, rest)
+no_duties : (case : Case) (duties : List Duty) → length duties ≡ 0 → (carried duties ≡ []) × (cost_of_duties case 0 duties ≡ 0)
+no_duties case [] none = (refl, refl)
+no_duties case (duty ∷ more) none = absurd (omega arith)
 
--- how often a plan names an order
-abbrev times : List ℕ → ℕ → ℕ
-times plan order = count_by (λ number. number == order) plan
+-- a lawful plan of a week without drivers costs what subcontracting all orders costs
+pub costs_all : (week : Week) (plan : Plan) → length week.drivers ≡ 0 → IsLawfulPlan (undriven_case week) plan
+    → cost_of_plan (undriven_case week) plan ≡ cost_of_all week
+costs_all week plan none lawful =
+    let no : (carried plan.duties ≡ []) × (cost_of_duties (undriven_case week) 0 plan.duties ≡ 0) =
+    no_duties (undriven_case week) plan.duties (lawful.duties ∙ none) in
+    let once : (order : ℕ) → order < length week.orders → times order plan.out ≡ 1 =
+    λ order below. omega (arith, lawful.once order below, ap (times order) no.0) in
+    omega (arith, no.1, worth_all week plan.out once lawful.known)
 
-times_more : (x : ℕ) (xs : List ℕ) → times (x ∷ xs) x ≡ times xs x + 1
-times_more x xs = grind (arith, common_steps)
+times_before : (order first more : ℕ) → order < first → times order (range_with_len first more) ≡ 0
+times_before order first zero before = refl
+times_before order first (suc more) before =
+    let other : eqb order first ≡ false = grind (arith, nat_tests) in
+    rw other (omega (arith, times_before order (first + 1) more (omega arith)))
 
-times_other : (x k : ℕ) (xs : List ℕ) → k ≢ x → times (x ∷ xs) k ≡ times xs k
-times_other x k xs other = grind (arith, common_steps)
+times_step : (order first more : ℕ) (b : Bool) → eqb order first ≡ b → first ≤ order
+    → (first + 1 ≤ order → times order (range_with_len (first + 1) more) ≡ 1) → times order (range_with_len first (suc more)) ≡ 1
+times_step order first more true e from rest =
+    let same : order ≡ first = grind (arith, nat_tests) in rw e (omega (arith, times_before order (first + 1) more (omega arith)))
+times_step order first more false e from rest =
+    let other : order ≢ first = grind (arith, nat_tests) in rw e (omega (arith, rest (omega arith)))
 
--- the cost of a plan is the sum over all orders
-weighed_plan : (n : ℕ) (f : ℕ → ℕ) (plan : List ℕ) → All (λ number. number < n) plan → sum_by f plan ≡ weighed n (times plan) f
-weighed_plan n f [] known = sym (weighed_none n f)
-weighed_plan n f (x ∷ xs) known =
-    let rest = weighed_plan n f xs (λ k d lt. known (suc k) d (omega arith)) in
-    sum_by-cons f x xs ∙ ap (λ (s : ℕ). f x + s) rest ∙ sym (weighed_once n x (times xs) (times (x ∷ xs)) f (known 0 0 (omega arith)) (times_more x xs) (λ k lt other. times_other x k xs other))
+-- a number of those named is named once
+times_among : (order first more : ℕ) → first ≤ order → order < first + more → times order (range_with_len first more) ≡ 1
+times_among order first zero from to = absurd (omega arith)
+times_among order first (suc more) from to =
+    times_step order first more (eqb order first) refl from (λ later. times_among order (first + 1) more later (omega arith))
 
--- each order once is the sum of the prices
-weighed_orders : (orders : List Order) (c : ℕ → ℕ) → ((k : ℕ) → k < length orders → c k ≡ 1) → weighed (length orders) c (λ k. price_in (slice_get orders k)) ≡ sum_by (λ order. order.price) orders
-weighed_orders [] c once = refl
-weighed_orders (o ∷ os) c once = rw (once 0 (omega arith), weighed_orders os (λ k. c (suc k)) (λ k lt. once (suc k) (omega arith)), sum_by-cons (λ order. order.price) o os) (omega arith)
+named_below : (first more : ℕ) → EachOf (λ k order. order < first + more) (range_with_len first more)
+named_below first zero k order h = cc
+named_below first (suc more) zero order h = let same : first ≡ order = cc in omega arith
+named_below first (suc more) (suc k) order h = let below = named_below (first + 1) more k order h in omega (arith, below)
 
-pub cost_out_is : (week : Week) (plan : List ℕ) → IsOutPlan week plan → cost_out week plan ≡ subcontracted week
-cost_out_is week plan lawful =
-    weighed_plan (length week.orders) (λ number. price_in (slice_get week.orders number)) plan lawful.known
-    ∙ weighed_orders week.orders (times plan) lawful.once
-
--- a number at the end of a plan
-times_push : (n k : ℕ) (xs : List ℕ) → times (xs ++ n ∷ []) k ≡ times xs k + cond (n == k) 1 0
-times_push n k xs = sum_by_push (λ number. cond (number == k) 1 0) xs n
-
-times_none : (n k : ℕ) → n ≤ k → times (first_orders n) k ≡ 0
-times_none zero k above = refl
-times_none (suc n) k above = grind (arith, common_steps, times_push n k (first_orders n), times_none n k (omega arith))
-
-times_first : (n k : ℕ) → k < n → times (first_orders n) k ≡ 1
-times_first zero k below = absurd (omega arith)
-times_first (suc n) k below =
-    elim (cases_order k n) [
-      | inl last ↦ grind (arith, common_steps, last, times_push n k (first_orders n), times_none n k (omega arith))
-      | inr (inl lt) ↦ grind (arith, common_steps, lt, times_push n k (first_orders n), times_first n k lt)
-      | inr (inr gt) ↦ absurd (omega arith)
-    ]
-
-known_first : (m n : ℕ) → n ≤ m → All (λ number. number < m) (first_orders n)
-known_first m zero fits = λ k d lt. absurd (omega (arith, lt))
-known_first m (suc n) fits = All-push (λ number. number < m) (first_orders n) n (known_first m n (omega arith)) (omega arith)
-
--- the plan that a report prints is a lawful one
-pub first_is_lawful : (week : Week) → IsOutPlan week (first_orders (length week.orders))
-first_is_lawful week = record {
-  known = known_first (length week.orders) (length week.orders) (omega arith);
-  once = λ order lt. times_first (length week.orders) order lt;
+-- subcontracting every order is a lawful plan
+pub is_lawful : (week : Week) → length week.drivers ≡ 0 → IsLawfulPlan (undriven_case week) (all_subcontracted week)
+is_lawful week none = record {
+  duties = sym none;
+  lawful = λ k duty h. cc;
+  once = λ order below. omega (arith, times_among order 0 (length week.orders) (omega arith) (omega arith));
+  known = λ k order h. omega (arith, named_below 0 (length week.orders) k order h);
 }
+
+total_shift : (f : ℕ → ℕ) (n : ℕ) → total_below f (suc n) ≡ f 0 + total_below (λ k. f (suc k)) n
+total_shift f zero = omega arith
+total_shift f (suc n) = omega (arith, total_shift f n)
+
+-- the sum of the prices of a list
+sum_is : (orders : List Order) → sum_by (λ order. order.price) orders ≡ total_below (λ k. price_or_none (slice_get orders k)) (length orders)
+sum_is [] = refl
+sum_is (x ∷ xs) = omega (arith, sum_by-cons (λ order. order.price) x xs, total_shift (λ k. price_or_none (slice_get (x ∷ xs) k)) (length xs), sum_is xs)
+
+-- the sum of the prices is what subcontracting every order costs
+pub prices_are_cost : (week : Week) (cost : ℕ) → length week.drivers ≡ 0 → cost ≡ sum_by (λ order. order.price) week.orders
+    → cost ≡ cost_of_plan (undriven_case week) (all_subcontracted week)
+prices_are_cost week cost none e = e ∙ sum_is week.orders ∙ sym (costs_all week (all_subcontracted week) none (is_lawful week none))
+
+map_shift : (f : ℕ → List ℕ) (first next more : ℕ) → next ≡ suc first → map f (range_with_len next more) ≡ map (λ k. f (suc k)) (range_with_len first more)
+map_shift f first next zero e = refl
+map_shift f first next (suc more) e =
+    let here : f next ≡ f (suc first) = ap f e in
+    let rest = map_shift f (first + 1) (next + 1) more (omega arith) in
+    let before : f next ∷ map f (range_with_len (next + 1) more) ≡ f next ∷ map (λ k. f (suc k)) (range_with_len (first + 1) more) =
+    ap (λ (lines : List (List ℕ)). f next ∷ lines) rest in
+    before ∙ ap (λ (line : List ℕ). line ∷ map (λ k. f (suc k)) (range_with_len (first + 1) more)) here
+
+-- the lines of the numbers of all orders are the orders' lines
+pub lines_are : (orders : List Order) → map (λ k. option_map_or out_line (slice_get orders k) []) (range_with_len 0 (length orders)) ≡ map out_line orders
+lines_are [] = refl
+lines_are (x ∷ xs) =
+    ap (λ (rest : List (List ℕ)). out_line x ∷ rest) (map_shift (λ k. option_map_or out_line (slice_get (x ∷ xs) k) []) 0 1 (length xs) refl ∙ lines_are xs)

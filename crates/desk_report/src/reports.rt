@@ -1,9 +1,11 @@
 // The report of a week without drivers, all of whose orders are subcontracted.
-ghost use Rattle.std.specs.Prelude.{length, ◌≡◌, ◌++◌, ℕ, List, OnOk, IfOk, map};
+ghost use Rattle.std.specs.Prelude.{length, ◌≡◌, ◌++◌, OnOk, IfOk, map, sum_by};
 ghost use Rattle.std.specs.Fmt.{decimal};
 ghost use Rattle.std.specs.List.{flat_map};
 ghost use Rattle.week_book.specs.Weeks.{IsWeek};
-ghost use Rattle.desk_report.specs.Plans.{subcontracted, IsOutPlan, cost_out, first_orders};
+ghost use Rattle.duty_plan.specs.declared.plans.Plan.{Plan};
+ghost use Rattle.duty_plan.specs.Duties.{IsLawfulPlan, cost_of_plan};
+ghost use Rattle.desk_report.specs.Plans.{undriven_case, all_subcontracted};
 ghost use Rattle.desk_report.specs.Reports.{line_of, out_line, IsReportOut};
 
 use minute_line::{Bytes, Many, Memory, monday_text, push_decimal};
@@ -13,7 +15,7 @@ use week_book::{Order, Week};
 /// What subcontracting every order costs, in cents.
 fn cost_of(week: &Week) -> u64
     requires { IsWeek week.now }
-    ensures { result ≡ subcontracted week.now }
+    ensures { result ≡ sum_by (λ order. order.price) week.now.orders }
 {
     let mut cost = 0;
     for order in week.orders.as_slice() {
@@ -62,7 +64,8 @@ fn push_out_lines(text: &mut Bytes, orders: &[Order]) -> Result<(), Memory>
 /// The report of a checked week without drivers. Each order is subcontracted, so cost and bound are the sum of the
 /// prices. Its time grows with the length of the text.
 pub fn report_out(alloc: Global, week: &Week) -> Result<Bytes, Memory>
-    requires { IsWeek week.now }
+    requires checked { IsWeek week.now }
+    requires undriven { length week.now.drivers ≡ 0 }
     ensures { IfOk result (IsReportOut week.now) }
 {
     let cost = cost_of(week);
@@ -77,8 +80,10 @@ pub fn report_out(alloc: Global, week: &Week) -> Result<Bytes, Memory>
 }
 
 /// A law, which does nothing: each lawful plan of a week without drivers costs the bound that its report prints, and the
-/// plan that it prints is a lawful one.
+/// plan that it prints, which subcontracts each order, is a lawful one.
 pub fn each_plan_costs_the_bound(week: &Week)
-    ensures bound { (plan : List ℕ) → IsOutPlan week.now plan → cost_out week.now plan ≡ subcontracted week.now }
-    ensures printed { IsOutPlan week.now (first_orders (length week.now.orders)) }
+    requires { length week.now.drivers ≡ 0 }
+    ensures bound { (plan : Plan) → IsLawfulPlan (undriven_case week.now) plan
+        → cost_of_plan (undriven_case week.now) plan ≡ cost_of_plan (undriven_case week.now) (all_subcontracted week.now) }
+    ensures printed { IsLawfulPlan (undriven_case week.now) (all_subcontracted week.now) }
 {}

@@ -1,3 +1,4 @@
+use Rattle.desk_report.proofs.PlanSums.{prices_are_cost}
 use Rattle.desk_report.proofs.ReportLines.{report_written}
 use Rattle.desk_report.proofs.reports.report_out.Goals as goal
 
@@ -7,7 +8,7 @@ returns c = (
   c.monday_text.ensures,
   report_written c.args.week.now c.monday_text.result c.cost_of-cost.result c.as_slice.result.now _ _ _ _ _ _ _ record {
     empty = c.new-text.ensures;
-    costs = c.cost_of-cost.ensures;
+    costs = prices_are_cost c.args.week.now c.cost_of-cost.result c.requires.undriven c.cost_of-cost.ensures;
     all = c.as_slice.ensures;
     of_week = c.in_ok-push_line.ensures;
     of_cost = c.in_ok-push_number_line.ensures;
