@@ -1,17 +1,24 @@
 -- What a status says of a run.
 use Rattle.std.proofs.Common.{◌≡◌, ℕ, ◌⊎◌, ◌∙◌, sym, ap, refl, inl, inr, List, Option, Some, None, Result, Ok, Err, arith}
-use Rattle.desk_io.specs.Device.{Rose}
+use Rattle.desk_io.specs.Device.{counted_up, GivesBytes, NothingLeft, Takes}
 use Rattle.week_book.specs.declared.weeks.Week.{Week}
+use Rattle.week_book.specs.Driven.{did_of}
+use Rattle.duty_plan.specs.Duties.{IsCase}
+use Rattle.desk_csv.specs.declared.errors.Form.TheVariants as form
+use Rattle.desk_report.specs.Plans.{undriven_case, all_subcontracted}
 use Rattle.desk_report.specs.Reports.{IsReportOut}
-use Rattle.desk_report.proofs.PlanSums.{cost_out_is}
+use Rattle.desk_report.proofs.PlanSums.{costs_all, is_lawful}
 use Rattle.desk_core.specs.declared.refusals.Refusal.{Refusal}
 use Rattle.desk_core.specs.declared.refusals.Refusal.TheVariants.{Long, Csv, Week as Weekly, Past, Line, NoHistory, Drivers}
 use Rattle.desk_core.specs.Planning.{plan_said}
+use Rattle.desk_core.specs.Refusing.{refuse, rows_said}
 use Rattle.desk_core.specs.Checking.{check_said}
+use Rattle.desk_core.proofs.Gathering.{then_ok}
+use Rattle.desk_core.proofs.Verdicts.{lines_are_verdicts}
 use Rattle.desk.specs.declared.asks.Ask.{Ask}
 use Rattle.desk.specs.declared.asks.Ask.TheVariants.{Plan, Check}
 use Rattle.desk.specs.Saying.{Said, SaysPlan, SaysCheck, Says, status_of, refused}
-use Rattle.desk.specs.Running.{SaysAsked, Runs, IsPlanned}
+use Rattle.desk.specs.Running.{SaysAsked, Runs, IsPlanned, IsChecked}
 
 -- a refusal's status is 3 or 4
 refusal-status : (r : Refusal) → (status_of r ≡ 3) ⊎ (status_of r ≡ 4)
@@ -48,109 +55,166 @@ answered : (ask : Ask) (text : List ℕ) (said : Said) → Says ask text said �
 answered Plan text said h = answered-plan (plan_said text) said h
 answered Check text said h = answered-check (check_said text) said h
 
--- where a status that is said comes from: the source failed, the words are no command, or a text was answered
+-- where a status that is said comes from, and what the source counted: it failed, the words are no command, or a text was
+-- answered
 abbrev Stems : Option Ask → ℕ → ℕ → Said → Type 0
 Stems asked before after said =
-    ((said.status ≡ 5) × Rose before after) ⊎ (((said.status ≡ 2) × (asked ≡ None)) ⊎ IsAnswered said)
+    ((said.status ≡ 5) × (after ≡ counted_up before))
+    ⊎ (((said.status ≡ 2) × (asked ≡ None) × (after ≡ before)) ⊎ (IsAnswered said × (after ≡ before)))
 
 stems : (asked : Option Ask) (left rest : Option (List ℕ)) (before after : ℕ) (said : Said)
     → SaysAsked asked left rest before after said → Stems asked before after said
 unfolding IsAnswered
-stems None left rest before after said says = inr (inl (ap (λ (s : Said). s.status) says.0, refl))
+stems None left rest before after said says = inr (inl (ap (λ (s : Said). s.status) says.0, refl, says.2))
 stems (Some ask) left rest before after said (given, gives, inl fault) = inl (ap (λ (s : Said). s.status) fault.0, fault.1)
 stems (Some ask) left rest before after said (given, gives, inr (inl long)) =
-    inr (inr (answered-refusal said Long long.1))
-stems (Some ask) left rest before after said (given, gives, inr (inr all)) = inr (inr (answered ask given said all.2))
+    inr (inr (answered-refusal said Long long.1, long.2))
+stems (Some ask) left rest before after said (given, gives, inr (inr all)) = inr (inr (answered ask given said all.2, all.3))
 
--- the status of a text that was answered is none of these
-not_answered : (said : Said) (n : ℕ) → said.status ≡ n → IsAnswered said → (n ≡ 0) ⊎ ((n ≡ 3) ⊎ (n ≡ 4))
+-- what a status says of the words and of the counts
+pub record Shows (asked : Option Ask) (before after old new status : ℕ) : Type 0 where
+  pub usage_only : status ≡ 2 → asked ≡ None
+  pub read_cause : status ≡ 5 → after ≡ counted_up before
+  pub sink_cause : status ≡ 6 → new ≡ counted_up old
+  pub no_fault : status ≡ 0 → (after ≡ before) × (new ≡ old)
+
+-- the text was told, with its status
+told : (asked : Option Ask) (before after old new status : ℕ) (said : Said) → Stems asked before after said → status ≡ said.status → new ≡ old
+    → Shows asked before after old new status
 unfolding IsAnswered
-not_answered said n e (inl zero) = inl (sym e ∙ zero)
-not_answered said n e (inr (inl three)) = inr (inl (sym e ∙ three))
-not_answered said n e (inr (inr four)) = inr (inr (sym e ∙ four))
+told asked before after old new status said (inl fault) is same = record {
+  usage_only = λ two. absurd (omega (arith, fault.0));
+  read_cause = λ five. fault.1;
+  sink_cause = λ six. absurd (omega (arith, fault.0));
+  no_fault = λ zero. absurd (omega (arith, fault.0));
+}
+told asked before after old new status said (inr (inl words)) is same = record {
+  usage_only = λ two. words.1;
+  read_cause = λ five. absurd (omega (arith, words.0));
+  sink_cause = λ six. absurd (omega (arith, words.0));
+  no_fault = λ zero. (words.2, same);
+}
+told asked before after old new status said (inr (inr (inl zero, counts))) is same = record {
+  usage_only = λ two. absurd (omega arith);
+  read_cause = λ five. absurd (omega arith);
+  sink_cause = λ six. absurd (omega arith);
+  no_fault = λ _. (counts, same);
+}
+told asked before after old new status said (inr (inr (inr (inl three), counts))) is same = record {
+  usage_only = λ two. absurd (omega arith);
+  read_cause = λ five. absurd (omega arith);
+  sink_cause = λ six. absurd (omega arith);
+  no_fault = λ _. (counts, same);
+}
+told asked before after old new status said (inr (inr (inr (inr four), counts))) is same = record {
+  usage_only = λ two. absurd (omega arith);
+  read_cause = λ five. absurd (omega arith);
+  sink_cause = λ six. absurd (omega arith);
+  no_fault = λ _. (counts, same);
+}
 
--- the source's count rose where its failure was told
-pub read_cause : (asked : Option Ask) (left rest : Option (List ℕ)) (before after : ℕ) (held holds : Option (List ℕ)) (old new status : ℕ)
-    → Runs asked left rest before after held holds old new status → status ≡ 5 → Rose before after
-read_cause asked left rest before after held holds old new status (inr wants) five = absurd (omega (arith, wants.0, five))
-read_cause asked left rest before after held holds old new status (inl (said, says, inr fails)) five = absurd (omega (arith, fails.0, five))
-read_cause asked left rest before after held holds old new status (inl (said, says, inl told)) five =
-    elim (stems asked left rest before after said says) [
-      | inl fault ↦ fault.1
-      | inr other ↦ elim other [
-        | inl two ↦ absurd (omega (arith, told.0, five, two.0))
-        | inr text ↦ elim (not_answered said 5 (sym told.0 ∙ five) text) [
-          | inl zero ↦ absurd (omega (arith, zero))
-          | inr more ↦ elim more [ inl three ↦ absurd (omega (arith, three)) | inr four ↦ absurd (omega (arith, four)) ]
-        ]
-      ]
-    ]
+pub shows : (asked : Option Ask) (left rest : Option (List ℕ)) (before after : ℕ) (held holds : Option (List ℕ)) (old new status : ℕ)
+    → Runs asked left rest before after held holds old new status → Shows asked before after old new status
+shows asked left rest before after held holds old new status (inr wants) = record {
+  usage_only = λ two. absurd (omega (arith, wants.0.0));
+  read_cause = λ five. absurd (omega (arith, wants.0.0));
+  sink_cause = λ six. absurd (omega (arith, wants.0.0));
+  no_fault = λ zero. absurd (omega (arith, wants.0.0));
+}
+shows asked left rest before after held holds old new status (inl (said, says, inr fails)) = record {
+  usage_only = λ two. absurd (omega (arith, fails.0));
+  read_cause = λ five. absurd (omega (arith, fails.0));
+  sink_cause = λ six. fails.1;
+  no_fault = λ zero. absurd (omega (arith, fails.0));
+}
+shows asked left rest before after held holds old new status (inl (said, says, inl tells)) =
+    told asked before after old new status said (stems asked left rest before after said says) tells.0 tells.2
 
--- the sink's count rose where the status is its own
-pub sink_cause : (asked : Option Ask) (left rest : Option (List ℕ)) (before after : ℕ) (held holds : Option (List ℕ)) (old new status : ℕ)
-    → Runs asked left rest before after held holds old new status → status ≡ 6 → Rose old new
-sink_cause asked left rest before after held holds old new status (inr wants) six = absurd (omega (arith, wants.0, six))
-sink_cause asked left rest before after held holds old new status (inl (said, says, inr fails)) six = fails.1
-sink_cause asked left rest before after held holds old new status (inl (said, says, inl told)) six =
-    elim (stems asked left rest before after said says) [
-      | inl fault ↦ absurd (omega (arith, told.0, six, fault.0))
-      | inr other ↦ elim other [
-        | inl two ↦ absurd (omega (arith, told.0, six, two.0))
-        | inr text ↦ elim (not_answered said 6 (sym told.0 ∙ six) text) [
-          | inl zero ↦ absurd (omega (arith, zero))
-          | inr more ↦ elim more [ inl three ↦ absurd (omega (arith, three)) | inr four ↦ absurd (omega (arith, four)) ]
-        ]
-      ]
-    ]
+-- a text that is told with status 0 was read to its end, and this is said of it
+record Succeeds (ask : Ask) (left rest held holds : Option (List ℕ)) : Type 0 where
+  pub text : List ℕ
+  pub given : GivesBytes left text rest
+  pub ended : NothingLeft rest
+  pub said : Said
+  pub says : Says ask text said
+  pub zero : said.status ≡ 0
+  pub printed : Takes held said.text holds
 
--- the words were no command where the usage line was told
-pub usage_only : (asked : Option Ask) (left rest : Option (List ℕ)) (before after : ℕ) (held holds : Option (List ℕ)) (old new status : ℕ)
-    → Runs asked left rest before after held holds old new status → status ≡ 2 → asked ≡ None
-usage_only asked left rest before after held holds old new status (inr wants) two = absurd (omega (arith, wants.0, two))
-usage_only asked left rest before after held holds old new status (inl (said, says, inr fails)) two = absurd (omega (arith, fails.0, two))
-usage_only asked left rest before after held holds old new status (inl (said, says, inl told)) two =
-    elim (stems asked left rest before after said says) [
-      | inl fault ↦ absurd (omega (arith, told.0, two, fault.0))
-      | inr other ↦ elim other [
-        | inl none ↦ none.1
-        | inr text ↦ elim (not_answered said 2 (sym told.0 ∙ two) text) [
-          | inl zero ↦ absurd (omega (arith, zero))
-          | inr more ↦ elim more [ inl three ↦ absurd (omega (arith, three)) | inr four ↦ absurd (omega (arith, four)) ]
-        ]
-      ]
-    ]
+succeeds : (ask : Ask) (left rest : Option (List ℕ)) (before after : ℕ) (held holds : Option (List ℕ)) (old new status : ℕ)
+    → Runs (Some ask) left rest before after held holds old new status → status ≡ 0 → Succeeds ask left rest held holds
+succeeds ask left rest before after held holds old new status (inr wants) zero = absurd (omega (arith, wants.0.0))
+succeeds ask left rest before after held holds old new status (inl (said, says, inr fails)) zero = absurd (omega (arith, fails.0))
+succeeds ask left rest before after held holds old new status (inl (said, (given, gives, inl fault), inl tells)) zero =
+    absurd (omega (arith, tells.0, zero, ap (λ (s : Said). s.status) fault.0))
+succeeds ask left rest before after held holds old new status (inl (said, (given, gives, inr (inl long)), inl tells)) zero =
+    absurd (omega (arith, tells.0, zero, ap (λ (s : Said). s.status) long.1))
+succeeds ask left rest before after held holds old new status (inl (said, (given, gives, inr (inr all)), inl tells)) zero = record {
+  text = given;
+  given = gives;
+  ended = all.1;
+  said = said;
+  says = all.2;
+  zero = sym tells.0 ∙ zero;
+  printed = tells.1;
+}
+
+-- a refusal is told with another status
+not_refused : {P : Type 0} (said : Said) (refusal : Refusal) → said ≡ refused refusal → said.status ≡ 0 → P
+not_refused said refusal is zero = elim (refusal-status refusal) [
+  | inl three ↦ absurd (omega (arith, zero, three, ap (λ (s : Said). s.status) is))
+  | inr four ↦ absurd (omega (arith, zero, four, ap (λ (s : Said). s.status) is))
+]
 
 -- a plan that is told with status 0 is the report of the accepted week
 reported : (r : Result Week Refusal) (said : Said) → SaysPlan r said → said.status ≡ 0
-    → (week : Week) × ((r ≡ Ok week) × IsReportOut week said.text)
-reported (Ok week) said h zero = (week, (refl, h.2))
-reported (Err refusal) said h zero = elim (refusal-status refusal) [
-  | inl three ↦ absurd (omega (arith, zero, three, ap (λ (s : Said). s.status) h))
-  | inr four ↦ absurd (omega (arith, zero, four, ap (λ (s : Said). s.status) h))
-]
-
-is_planned : (left rest : Option (List ℕ)) (before after : ℕ) (held holds : Option (List ℕ)) (old new status : ℕ)
-    → Runs (Some Plan) left rest before after held holds old new status → status ≡ 0 → IsPlanned left rest held holds
-is_planned left rest before after held holds old new status (inr wants) zero = absurd (omega (arith, wants.0, zero))
-is_planned left rest before after held holds old new status (inl (said, says, inr fails)) zero = absurd (omega (arith, fails.0, zero))
-is_planned left rest before after held holds old new status (inl (said, (given, gives, inl fault), inl told)) zero =
-    absurd (omega (arith, told.0, zero, ap (λ (s : Said). s.status) fault.0))
-is_planned left rest before after held holds old new status (inl (said, (given, gives, inr (inl long)), inl told)) zero =
-    absurd (omega (arith, told.0, zero, ap (λ (s : Said). s.status) long.1))
-is_planned left rest before after held holds old new status (inl (said, (given, gives, inr (inr all)), inl told)) zero =
-    let found = reported (plan_said given) said all.2 (sym told.0 ∙ zero) in record {
-      text = given;
-      given = gives;
-      ended = all.1;
-      week = found.0;
-      accepted = found.1.0;
-      report = said.text;
-      reports = found.1.1;
-      printed = told.1;
-      bound = cost_out_is found.0;
-    }
+    → (week : Week) × (r ≡ Ok week) × IsCase (undriven_case week) × IsReportOut week said.text
+reported (Ok week) said h zero = (week, refl, h.1, h.2)
+reported (Err refusal) said h zero = not_refused said refusal h zero
 
 pub planned : (asked : Option Ask) (left rest : Option (List ℕ)) (before after : ℕ) (held holds : Option (List ℕ)) (old new status : ℕ)
     → Runs asked left rest before after held holds old new status → status ≡ 0 → asked ≡ Some Plan → IsPlanned left rest held holds
 planned asked left rest before after held holds old new status run zero e =
-    is_planned left rest before after held holds old new status (rw e at run) zero
+    let all = succeeds Plan left rest before after held holds old new status (rw e at run) zero in
+    let found = reported (plan_said all.text) all.said all.says all.zero in
+    let none = sym found.2.drivers in record {
+      text = all.text;
+      given = all.given;
+      ended = all.ended;
+      week = found.0;
+      accepted = found.1;
+      valid = found.2;
+      report = all.said.text;
+      reports = found.3;
+      printed = all.printed;
+      lawful = is_lawful found.0 none;
+      bound = λ plan lawful. costs_all found.0 plan none lawful ∙ sym (costs_all found.0 (all_subcontracted found.0) none (is_lawful found.0 none));
+    }
+
+-- a check that is told with status 0 is the verdicts of the accepted text
+judged : (r : Result (List ℕ) Refusal) (said : Said) → SaysCheck r said → said.status ≡ 0 → r ≡ Ok said.text
+judged (Ok lines) said h zero = ap (λ (s : Said). Ok s.text) (sym h)
+judged (Err refusal) said h zero = not_refused said refusal h zero
+
+refuse-ok : {A E : Type 0} (because : E → Refusal) (r : Result A E) (x : A) → refuse because r ≡ Ok x → r ≡ Ok x
+refuse-ok because (Ok y) x h = let same : y ≡ x = cc in ap Ok same
+refuse-ok because (Err e) x h = cc h
+
+pub checked : (asked : Option Ask) (left rest : Option (List ℕ)) (before after : ℕ) (held holds : Option (List ℕ)) (old new status : ℕ)
+    → Runs asked left rest before after held holds old new status → status ≡ 0 → asked ≡ Some Check → IsChecked left rest held holds
+checked asked left rest before after held holds old new status run zero e =
+    let all = succeeds Check left rest before after held holds old new status (rw e at run) zero in
+    let accepted : check_said all.text ≡ Ok all.said.text = judged (check_said all.text) all.said all.says all.zero in
+    let rows = then_ok (rows_said form.Check all.text) _ all.said.text accepted in
+    let drivers = then_ok (refuse Weekly (did_of rows.0)) _ all.said.text rows.2 in record {
+      text = all.text;
+      given = all.given;
+      ended = all.ended;
+      lines = all.said.text;
+      accepted = accepted;
+      printed = all.printed;
+      rows = rows.0;
+      read = rows.1;
+      drivers = drivers.0;
+      driven = refuse-ok Weekly (did_of rows.0) drivers.0 drivers.1;
+      verdicts = lines_are_verdicts rows.0 drivers.0 all.said.text drivers.2;
+    }

@@ -1,7 +1,8 @@
 -- What the desk says: a status, and the text that goes with it.
 use Rattle.std.specs.Prelude.{◌≡◌, ⊤, ℕ, List, [], ◌∷◌, ◌++◌, Result, Ok, Err, codes}
 use Rattle.week_book.specs.declared.weeks.Week.{Week}
-use Rattle.week_book.specs.Weeks.{IsWeek}
+use Rattle.duty_plan.specs.Duties.{IsCase}
+use Rattle.desk_report.specs.Plans.{undriven_case}
 use Rattle.desk_report.specs.Reports.{IsReportOut}
 use Rattle.desk_core.specs.declared.refusals.Refusal.{Refusal}
 use Rattle.desk_core.specs.declared.refusals.Refusal.TheVariants.{NoHistory}
@@ -35,9 +36,9 @@ status_of _ = 3
 abbrev pub refused : Refusal → Said
 refused refusal = record { status = status_of refusal; text = refusal_text refusal }
 
--- a plan is the report of its week, which is a checked one, or a refusal
+-- a plan is the report of its week, a checked one without drivers, or a refusal
 abbrev pub SaysPlan : Result Week Refusal → Said → Type 0
-SaysPlan (Ok week) said = (said.status ≡ 0) × IsWeek week × IsReportOut week said.text
+SaysPlan (Ok week) said = (said.status ≡ 0) × IsCase (undriven_case week) × IsReportOut week said.text
 SaysPlan (Err refusal) said = said ≡ refused refusal
 
 -- a check is its lines, or a refusal
@@ -51,7 +52,7 @@ Says Plan text said = SaysPlan (plan_said text) said
 Says Check text said = SaysCheck (check_said text) said
 
 -- what a command answers to a text is what is said of it, unless memory was wanted
-abbrev pub Answers : Ask → List ℕ → Result (List ℕ) Stop → Type 0
-Answers ask text (Ok reply) = Says ask text (record { status = 0; text = reply })
-Answers ask text (Err (Refused refusal)) = Says ask text (refused refusal)
-Answers ask text (Err Memory) = ⊤
+abbrev pub AnswersAsk : Ask → List ℕ → Result (List ℕ) Stop → Type 0
+AnswersAsk ask text (Ok reply) = Says ask text (record { status = 0; text = reply })
+AnswersAsk ask text (Err (Refused refusal)) = Says ask text (refused refusal)
+AnswersAsk ask text (Err Memory) = ⊤

@@ -2,9 +2,9 @@
 ghost use Rattle.std.specs.Prelude.{◌≡◌, ◌≤◌, length, map, Some, None};
 ghost use Rattle.std.specs.String.{string_bytes};
 ghost use Rattle.desk.specs.Asking.{asked_by};
-ghost use Rattle.desk.specs.Saying.{Said, Answers, status_of, refused};
-ghost use Rattle.desk.specs.Running.{Tells, TellsOrWants, TellsText, Runs, IsPlanned, text_limit};
-ghost use Rattle.desk_io.specs.Device.{Rose};
+ghost use Rattle.desk.specs.Saying.{AnswersAsk, status_of, refused};
+ghost use Rattle.desk.specs.Running.{Tells, TellsOrWants, TellsText, Runs, IsPlanned, IsChecked, text_limit};
+ghost use Rattle.desk_io.specs.Device.{counted_up};
 
 use crate::asks::{Ask, read_words};
 use desk_core::{Refusal, Stop, check_text, plan_text, refusal_line};
@@ -63,7 +63,7 @@ fn tell_refusal<K: Sink>(alloc: Global, sink: &mut K, refusal: &Refusal) -> u8
 /// The desk's answer to a text: a report or the verdicts, or its refusal.
 fn answer(alloc: Global, ask: Ask, text: &Bytes) -> Result<Bytes, Stop>
     requires { length text.now ≤ text_limit }
-    ensures { Answers ask text.now result }
+    ensures { AnswersAsk ask text.now result }
 {
     match ask {
         Ask::Plan => plan_text(alloc, text),
@@ -112,12 +112,18 @@ pub fn run_desk<R: Threads + Sync, S: Source, K: Sink>(
     // What is said, by the words and the bytes given, is told to the sink with its status.
     ensures run { Runs (asked_by (map string_bytes words.now.items)) (S.left source.old) (S.left source.new) (S.faults source.old) (S.faults source.new) (K.held sink.old) (K.held sink.new) (K.faults sink.old) (K.faults sink.new) result }
 
-    // A plan that succeeds prints an accepted week's report, and no lawful plan costs another sum than its bound.
+    // A plan that succeeds prints an accepted week's report, whose plan is lawful, and each lawful plan costs its bound.
     ensures planned { result ≡ 0 → asked_by (map string_bytes words.now.items) ≡ Some Ask.Plan → IsPlanned (S.left source.old) (S.left source.new) (K.held sink.old) (K.held sink.new) }
 
+    // A check that succeeds prints the verdict on each driver of an accepted text.
+    ensures checked { result ≡ 0 → asked_by (map string_bytes words.now.items) ≡ Some Ask.Check → IsChecked (S.left source.old) (S.left source.new) (K.held sink.old) (K.held sink.new) }
+
+    // A run that succeeds met no fault.
+    ensures no_fault { result ≡ 0 → (S.faults source.new ≡ S.faults source.old) × (K.faults sink.new ≡ K.faults sink.old) }
+
     ensures usage_only { result ≡ 2 → asked_by (map string_bytes words.now.items) ≡ None }
-    ensures read_cause { result ≡ 5 → Rose (S.faults source.old) (S.faults source.new) }
-    ensures sink_cause { result ≡ 6 → Rose (K.faults sink.old) (K.faults sink.new) }
+    ensures read_cause { result ≡ 5 → S.faults source.new ≡ counted_up (S.faults source.old) }
+    ensures sink_cause { result ≡ 6 → K.faults sink.new ≡ counted_up (K.faults sink.old) }
 {
     run(alloc, words, source, sink)
 }

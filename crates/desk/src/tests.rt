@@ -9,7 +9,7 @@ use std::test::Fail;
 use std::thread::Threads;
 
 /// The most bytes that a test's sink takes.
-const ROOM: usize = 1000;
+const ROOM: usize = 4096;
 
 /// The week row of every text here.
 const WEEK: &str = "week,2026-03-02,15,3000,15\n";
@@ -449,6 +449,45 @@ fn a_text_may_have_1048576_bytes(rt: HostRuntime) -> Result<(), Fail> {
         assert!(rt;
             tells(&rt, rt.alloc(), "plan", long.as_slice(), want) == Ok(true),
             "at {length} bytes"
+        );
+    }
+    Ok(())
+}
+
+/// The week text without drivers of the first row above, with so many orders O1, O2 .. in place of its two, each with the
+/// fields of A but for its price: O1 at 100 cents, and each next one at 100 more.
+fn text_of_orders(alloc: Global, orders: u32) -> Result<Bytes, Memory> {
+    let mut text = Many::from_slice(alloc, WEEK.as_bytes())?;
+    text.extend_from_slice(b"place,HUB\nplace,LYON\n")?;
+    for order in 1..=u64::from(orders) {
+        let price = 100 * order;
+        let row = format!(in alloc;
+            "order,O{order},LYON,2026-03-02T08:00,2026-03-02T12:00,30,12000,{price}\n"
+        )?;
+        text.extend_from_slice(row.as_bytes())?;
+    }
+    Ok(text)
+}
+
+// By hand: 100 cents times 1 + 2 + .. + 120 = 7,260.
+#[test]
+fn a_week_may_have_120_orders(rt: HostRuntime) -> Result<(), Fail> {
+    let mut report = format!(in rt.alloc();
+        "week 2026-03-02\ncost 726000\nbound 726000\nstate proved\nnodes 1\n"
+    )?;
+    for order in 1..=120u64 {
+        let price = 100 * order;
+        let line = format!(in rt.alloc(); "order O{order} out {price}\n")?;
+        report.push_str(&line)?;
+    }
+    for (orders, want) in [
+        (120, (0, report.as_str())),
+        (121, (3, "refused count orders 121\n")),
+    ] {
+        let text = text_of_orders(rt.alloc(), orders).ok().ok_or("memory")?;
+        assert!(rt;
+            tells(&rt, rt.alloc(), "plan", text.as_slice(), want) == Ok(true),
+            "at {orders} orders"
         );
     }
     Ok(())
