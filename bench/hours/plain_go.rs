@@ -16,7 +16,7 @@ fn call(clock: &Clock, first: &Clock, seed: u32) -> (Clock, u32) {
 }
 
 fn main() {
-    let history = History { prev_weekly: 2700, stints: vec![], open_off: 2700, prev_drive: 0, work16: [0; 16] };
+    let history = History { prev_weekly: 2700, stints: vec![], open_off: 2700, prev_drive: 0, work16: [0; 16], owed: 0, due: 0 };
     let first = start(&history);
     let mut clock = first;
     let mut seed = 1;

@@ -8,9 +8,9 @@ pub enum Mark { Drive, Work, Ready, Off }
 pub enum Kind { Plain, Daily, Weekly }
 
 #[derive(Clone, Copy, PartialEq, Eq, Debug)]
-pub enum Rule { H1 = 1, H2, H3, H4, H5, H6, H7, H8, H9, H10, H11 }
+pub enum Rule { H1 = 1, H2, H3, H4, H5, H6, H7, H8, H9, H10, H11, H12 }
 
-const RULES: [Rule; 11] = [Rule::H1, Rule::H2, Rule::H3, Rule::H4, Rule::H5, Rule::H6, Rule::H7, Rule::H8, Rule::H9, Rule::H10, Rule::H11];
+const RULES: [Rule; 12] = [Rule::H1, Rule::H2, Rule::H3, Rule::H4, Rule::H5, Rule::H6, Rule::H7, Rule::H8, Rule::H9, Rule::H10, Rule::H11, Rule::H12];
 
 #[derive(Clone, Copy, PartialEq, Eq, Debug)]
 pub struct Broken { pub rule: Rule, pub minute: u32 }
@@ -21,7 +21,7 @@ pub enum Verdict { Lawful, Broken(Broken) }
 #[derive(Clone, Copy, Debug)]
 pub struct Stint { pub mark: Mark, pub minutes: u32, pub kind: Kind }
 
-pub struct History { pub prev_weekly: u32, pub stints: Vec<Stint>, pub open_off: u32, pub prev_drive: u32, pub work16: [u32; 16] }
+pub struct History { pub prev_weekly: u32, pub stints: Vec<Stint>, pub open_off: u32, pub prev_drive: u32, pub work16: [u32; 16], pub owed: u32, pub due: u32 }
 
 #[derive(Clone, Copy, Debug)]
 pub struct Stay { pub ready: u32, pub off: u32, pub kind: Kind }
@@ -31,7 +31,7 @@ pub struct Clock {
     pub at: u32, pub off: u32, pub day_from: i32, pub rest_from: i32, pub period: u32, pub half: bool,
     pub drive_day: u32, pub long_days: u32, pub split: bool, pub reduced: u32, pub prev_weekly: u32,
     pub work_run: u32, pub work_day: u32, pub pause_day: u32, pub drive_week: u32, pub work_week: u32,
-    pub prev_drive: u32, pub work_before: u32,
+    pub prev_drive: u32, pub work_before: u32, pub owed: u32, pub due: i32,
 }
 
 const UNLIMITED: u32 = 20000;
@@ -45,15 +45,28 @@ impl Kind {
     fn is_rest(self) -> bool { self != Kind::Plain }
 }
 
-fn least_run(kind: Kind, weekly: u32) -> u32 {
+fn least_run(kind: Kind, weekly: u32, owed: u32) -> u32 {
     match kind {
         Kind::Plain => 0,
         Kind::Daily => 540,
-        Kind::Weekly => if weekly < 2700 { 2700 } else { 1440 },
+        Kind::Weekly => if weekly < 2700 || owed > 0 { 2700 } else { 1440 },
     }
 }
 
+fn left_until(limit: u32, from: i32, at: u32) -> u32 {
+    let used = at as i32 - from;
+    if used <= limit as i32 { (limit as i32 - used).unsigned_abs() } else { 0 }
+}
+
 impl Clock {
+    fn ends_paying(&self, kind: Kind) -> bool {
+        match kind {
+            Kind::Plain => false,
+            Kind::Daily => self.off >= 660 + self.owed,
+            Kind::Weekly => self.off >= 2700 + self.owed,
+        }
+    }
+
     fn end_run(&self, kind: Kind) -> Clock {
         if self.off == 0 {
             return *self;
@@ -65,6 +78,8 @@ impl Clock {
         let long = rest && self.drive_day > 540 && self.off < self.at;
         let reduced = rest && kind == Kind::Daily && !self.split
             && (self.off < 660 || self.at as i32 - self.day_from - self.off as i32 > 780);
+        let paying = self.ends_paying(kind);
+        let owing = weekly && self.off < 2700 && self.owed == 0;
         Clock {
             at: self.at,
             off: 0,
@@ -84,6 +99,8 @@ impl Clock {
             work_week: self.work_week,
             prev_drive: self.prev_drive,
             work_before: self.work_before,
+            owed: if paying { 0 } else if owing { 2700 - self.off } else { self.owed },
+            due: if paying { 0 } else if owing { ((self.at.div_ceil(10080) + 3) * 10080) as i32 } else { self.due },
         }
     }
 
@@ -106,9 +123,16 @@ impl Clock {
         Clock { at: self.at + minutes, off: self.off + minutes, ..*self }
     }
 
-    fn day_left(&self) -> u32 { (900 - (self.at as i32 - self.day_from)).max(0) as u32 }
+    fn day_left(&self) -> u32 { left_until(900, self.day_from, self.at) }
 
-    fn rest_left(&self) -> u32 { (8640 - (self.at as i32 - self.rest_from)).max(0) as u32 }
+    fn rest_left(&self) -> u32 { left_until(8640, self.rest_from, self.at) }
+
+    fn debt_left(&self) -> u32 {
+        if self.owed == 0 {
+            return UNLIMITED;
+        }
+        min(UNLIMITED, left_until(0, self.due - (660 + self.owed) as i32, self.at))
+    }
 
     fn drive_left(&self) -> u32 {
         let limit: u32 = if self.long_days < 2 { 600 } else { 540 };
@@ -127,7 +151,7 @@ impl Clock {
         limit.saturating_sub(self.work_day)
     }
 
-    fn is_short(&self, kind: Kind) -> bool { self.off >= 1 && self.off < least_run(kind, self.prev_weekly) }
+    fn is_short(&self, kind: Kind) -> bool { self.off >= 1 && self.off < least_run(kind, self.prev_weekly, self.owed) }
 
     fn room(&self, ended: &Clock, mark: Mark, kind: Kind, rule: Rule) -> u32 {
         let limit_if = |test: bool, limit: u32| if test { limit } else { UNLIMITED };
@@ -145,6 +169,7 @@ impl Clock {
             Rule::H9 => limit_if(working, ended.work_left()),
             Rule::H10 => limit_if(working, 360u32.saturating_sub(ended.work_run)),
             Rule::H11 => limit_if(working, ended.pause_left()),
+            Rule::H12 => ended.debt_left(),
         }
     }
 
@@ -152,7 +177,7 @@ impl Clock {
         if ended.reduced > 3 || self.is_short(kind) {
             return 0;
         }
-        min(ended.day_left(), ended.rest_left())
+        ended.day_left().min(ended.rest_left()).min(ended.debt_left())
     }
 
     fn work_room(&self) -> u32 {
@@ -212,6 +237,7 @@ pub fn start(history: &History) -> Clock {
         at: 0, off: 0, day_from: 0, rest_from: 0, period: 0, half: false, drive_day: 0, long_days: 0, split: false,
         reduced: 0, prev_weekly: history.prev_weekly, work_run: 0, work_day: 0, pause_day: 0, drive_week: 0,
         work_week: 0, prev_drive: history.prev_drive, work_before: history.work16.iter().sum(),
+        owed: history.owed, due: (history.due * 10080) as i32,
     };
     let mut declared = Kind::Plain;
     for stint in &history.stints {

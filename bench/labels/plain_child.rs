@@ -20,7 +20,7 @@ enum DutyFault { Road(u32), Stay(u32), Away(u32), Grid(u32), Late(u32), Window(u
 #[derive(Clone, Copy)]
 enum NoChild { Barred, Fault(DutyFault) }
 #[derive(Clone, Copy)]
-struct Label { clock: Clock, place: u32, served: u64, used: u32, loaded: bool, fee_paid: bool, value: i64 }
+struct Label { clock: Clock, place: u32, served: u128, used: u32, loaded: bool, fee_paid: bool, value: i64 }
 
 impl Act {
     fn mark(self) -> Mark {
@@ -184,7 +184,7 @@ fn main() {
     let orders: Vec<Order> = (0..24).map(|order| Order {
         name: name(b'A', order), place: 1 + order % 13, opens: 180 * order, closes: 180 * order + 2880, service: 30, kg: 4000, price: 20_000,
     }).collect();
-    let history = History { prev_weekly: 2700, stints: vec![], open_off: 2700, prev_drive: 0, work16: [0; 16] };
+    let history = History { prev_weekly: 2700, stints: vec![], open_off: 2700, prev_drive: 0, work16: [0; 16], owed: 0, due: 0 };
     let first = Label { clock: start(&history), place: 0, served: 0, used: 0, loaded: false, fee_paid: false, value: 0 };
     let pairs = Pairs { orders: 24, cells: (0..24).map(|order| if order % 13 == 5 { Pair::Barred } else { Pair::Free }).collect() };
     let prices = Prices { cents: vec![0; 24] };

@@ -3,12 +3,12 @@
 pub struct Clock {
     pub at: u32, pub off: u32, pub day_from: i32, pub rest_from: i32, pub period: u32, pub drive_day: u32, pub long_days: u32,
     pub reduced: u32, pub prev_weekly: u32, pub work_run: u32, pub work_day: u32, pub pause_day: u32, pub drive_week: u32,
-    pub work_week: u32, pub prev_drive: u32, pub work_before: u32, pub half: bool, pub split: bool,
+    pub work_week: u32, pub prev_drive: u32, pub work_before: u32, pub owed: u32, pub due: i32, pub half: bool, pub split: bool,
 }
 
 #[derive(Clone, Copy)]
 pub struct Label {
-    pub clock: Clock, pub place: u32, pub served: u64, pub used: u32, pub loaded: bool, pub fee_paid: bool, pub value: i64,
+    pub clock: Clock, pub place: u32, pub served: u128, pub used: u32, pub loaded: bool, pub fee_paid: bool, pub value: i64,
 }
 
 const REGULAR_WEEKLY: u32 = 2_700;
@@ -19,7 +19,7 @@ fn is_no_later_or_dearer(a: &Label, b: &Label) -> bool {
 }
 
 #[inline]
-fn serves_among(a: u64, b: u64, forced: u64) -> bool {
+fn serves_among(a: u128, b: u128, forced: u128) -> bool {
     (a & !b == 0) & ((a ^ b) & forced == 0)
 }
 
@@ -53,13 +53,19 @@ fn rested_as_well(a: &Clock, b: &Clock) -> bool {
 }
 
 #[inline]
-pub fn better(a: &Label, b: &Label, forced: u64) -> bool {
+fn owes_no_more(a: &Clock, b: &Clock) -> bool {
+    (a.owed <= b.owed) & ((a.owed == 0) | (a.due >= b.due))
+}
+
+#[inline]
+pub fn better(a: &Label, b: &Label, forced: u128) -> bool {
     is_no_later_or_dearer(a, b)
         & serves_among(a.served, b.served, forced)
         & has_as_much_room(a, b)
         & began_as_late(&a.clock, &b.clock)
         & did_as_little(&a.clock, &b.clock)
         & rested_as_well(&a.clock, &b.clock)
+        & owes_no_more(&a.clock, &b.clock)
 }
 
 fn next(seed: u32) -> u32 { seed.wrapping_mul(1664525).wrapping_add(1013904223) }
@@ -71,7 +77,7 @@ fn clock_of(at: u32, half: bool, a: u32, b: u32) -> Clock {
         at, off: 0, day_from: pick(a, 8, 4) as i32, rest_from: 0, period: 15 * pick(a, 12, 4), drive_day: 15 * pick(a, 16, 6),
         long_days: pick(a, 20, 2), reduced: pick(b, 8, 2), prev_weekly: 2_700, work_run: 15 * pick(b, 12, 4),
         work_day: 15 * pick(b, 16, 6), pause_day: 15 * pick(b, 20, 4), drive_week: 60 * pick(next(b), 8, 4),
-        work_week: 60 * pick(next(b), 12, 6), prev_drive: 0, work_before: 0, half, split: pick(next(b), 16, 4) == 0,
+        work_week: 60 * pick(next(b), 12, 6), prev_drive: 0, work_before: 0, owed: 0, due: 0, half, split: pick(next(b), 16, 4) == 0,
     }
 }
 
@@ -83,7 +89,7 @@ fn label_of(seed: u32, alike: bool) -> Label {
     Label {
         clock: clock_of(at, !alike && pick(c, 12, 4) == 0, a, b),
         place: 0,
-        served: if alike { 3 } else { pick(c, 16, 16) as u64 },
+        served: if alike { 3 } else { pick(c, 16, 16) as u128 },
         used: 100 * pick(next(b), 20, 4),
         loaded: true,
         fee_paid: true,
@@ -91,7 +97,7 @@ fn label_of(seed: u32, alike: bool) -> Label {
     }
 }
 
-struct Fronts { by_place: Vec<Vec<Label>>, forced: u64 }
+struct Fronts { by_place: Vec<Vec<Label>>, forced: u128 }
 
 impl Fronts {
     fn store(&mut self, label: Label) { self.by_place[label.place as usize].push(label) }
