@@ -6,8 +6,6 @@ mod children;
 #[cfg(test)]
 mod desks;
 mod laws;
-#[cfg(test)]
-mod order_tests;
 mod prices;
 mod pruning;
 #[cfg(test)]

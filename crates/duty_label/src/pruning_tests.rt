@@ -1,6 +1,5 @@
 // Which labels need not be stored, in the week of `desks`. What a completion may be worth is worked out by hand.
 use crate::desks::{LOAD, OUT, SERVE, label_of, prepared};
-use crate::tables::make_table;
 use crate::walks::make_walks;
 use duty_plan::{Act, Pair, Step};
 use hours_rules::Stay;
@@ -59,28 +58,5 @@ fn a_label_is_hopeless_just_where_it_cannot_pay_or_come_home(rt: HostRuntime) {
             "{pair:?} {} {known:?}",
             steps.len()
         );
-    }
-}
-
-// Legs from 0 to 1, 1 to 2, 0 to 2 and 2 to 0; none leads to 3.
-#[test]
-fn a_walk_may_take_less_than_a_leg(rt: HostRuntime) {
-    let mut table = make_table(rt.alloc()).expect(&rt, "memory");
-    table.clear();
-    for (from, to, number) in [(0, 1, 60), (1, 2, 100), (0, 2, 200), (2, 0, 10)] {
-        table.note(from, to, number);
-    }
-    table.close();
-    let rows = [
-        (0, 0, 0),
-        (0, 1, 60),
-        (0, 2, 160),
-        (1, 0, 110),
-        (2, 1, 70),
-        (0, 3, u64::MAX),
-        (3, 3, 0),
-    ];
-    for (from, to, number) in rows {
-        assert_eq!(rt; table.number(from, to), number, "{from} to {to}");
     }
 }
