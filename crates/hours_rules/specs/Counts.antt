@@ -3,6 +3,7 @@ use Rattle.std.specs.Prelude.{ℕ, ◌+◌, ◌-◌, Bool, false, not, ◌&&◌,
 use Rattle.minute_line.specs.declared.marks.Mark.{Mark}
 use Rattle.minute_line.specs.Marks.{is_duty, is_drive, is_daily, is_weekly, is_rest}
 use Rattle.minute_line.specs.Minutes.{Minute, Minutes}
+use Rattle.hours_rules.specs.declared.thresholds.TheConstants.{FULL_BREAK, FIRST_PART, SECOND_PART, DAY_DRIVE, REGULAR_DAILY_REST, DAY_BEFORE_REST, SPLIT_REST, PAUSE}
 
 -- how many minutes of a list have such a mark
 abbrev pub count : (Mark → Bool) → Minutes → ℕ
@@ -55,12 +56,12 @@ since_weekly line = since ends_weekly line
 
 -- all minutes after the last off run of at least 15 minutes that has ended (Directive, Art. 5)
 abbrev pub since_pause : Minutes → Minutes
-since_pause line = since (ends_run 15) line
+since_pause line = since (ends_run PAUSE) line
 
 -- it ends a full break, where `period` is the driving period that it would go on with: a run of at least
 -- 45 minutes, or at least 30 where a run of at least 15 ended earlier in that period (Art. 7)
 abbrev pub ends_break : Minutes → Minute → Minutes → Bool
-ends_break period m before = ends_run 45 m before || (ends_run 30 m before && has_run 15 period)
+ends_break period m before = ends_run FULL_BREAK m before || (ends_run SECOND_PART m before && has_run FIRST_PART period)
 
 -- the driving period: all minutes after the last full break that has ended (Art. 7)
 abbrev pub period_of : Minutes → Minutes
@@ -73,8 +74,8 @@ period_of (m ∷ before) =
 -- weekly rest or of the whole line, this is the same, since a weekly rest begins a work day too
 abbrev pub ends_reduced : Minute → Minutes → Bool
 ends_reduced m before =
-    ends_daily m before && (not (has_run 180 (work_day_of before))
-    && (nat_lt (open_run before) 660 || nat_lt 780 (length (work_day_of before) - open_run before)))
+    ends_daily m before && (not (has_run SPLIT_REST (work_day_of before))
+    && (nat_lt (open_run before) REGULAR_DAILY_REST || nat_lt DAY_BEFORE_REST (length (work_day_of before) - open_run before)))
 
 -- at how many minutes of a list a test holds
 abbrev pub times : (Minute → Minutes → Bool) → Minutes → ℕ
@@ -85,7 +86,7 @@ times test (m ∷ before) = (if test m before then 1 else 0) + times test before
 -- a minute of the week (Art. 6(1)); `week` is what of the week lies before m, and `past` all before Monday
 abbrev pub ends_long : Minutes → Minute → Minutes → Bool
 ends_long past m week =
-    ends_rest m (week ++ past) && (nat_lt 540 (count is_drive (work_day_of (week ++ past)))
+    ends_rest m (week ++ past) && (nat_lt DAY_DRIVE (count is_drive (work_day_of (week ++ past)))
     && nat_lt (open_run (week ++ past)) (length week))
 
 -- the length of the last weekly rest that has ended, or what the history says (Art. 8(6))

@@ -4,6 +4,7 @@ use Rattle.std.specs.Int.{int_div_euclid}
 use Rattle.minute_line.specs.declared.debts.TheConstants.{REGULAR_WEEKLY_REST}
 use Rattle.minute_line.specs.declared.lines.TheConstants.{WEEK_MINUTES}
 use Rattle.minute_line.specs.Minutes.{Minute, Minutes}
+use Rattle.hours_rules.specs.declared.thresholds.TheConstants.{REGULAR_DAILY_REST}
 use Rattle.hours_rules.specs.Counts.{open_run, ends_daily, ends_weekly}
 
 -- the minutes of rest that a driver owes, and the end of the week by which they are due, as a week minute
@@ -23,7 +24,7 @@ third_week_end minute = (int_div_euclid minute (pos WEEK_MINUTES) +ℤ pos 4) *�
 -- that is longer by them (Art. 8(7))
 abbrev pub ends_paying : ℕ → Minute → Minutes → Bool
 ends_paying owed m before =
-    (ends_daily m before && nat_le (660 + owed) (open_run before))
+    (ends_daily m before && nat_le (REGULAR_DAILY_REST + owed) (open_run before))
     || (ends_weekly m before && nat_le (REGULAR_WEEKLY_REST + owed) (open_run before))
 
 -- it ends a reduced weekly rest where nothing is owed yet

@@ -4,6 +4,8 @@ use Rattle.minute_line.specs.declared.marks.Mark.{Mark}
 use Rattle.minute_line.specs.declared.marks.Mark.TheVariants.{Drive, Work, Ready}
 use Rattle.minute_line.specs.declared.marks.Kind.{Kind}
 use Rattle.minute_line.specs.declared.marks.Kind.TheVariants.{Plain}
+use Rattle.minute_line.specs.declared.debts.TheConstants.{REGULAR_WEEKLY_REST}
+use Rattle.hours_rules.specs.declared.thresholds.TheConstants.{PERIOD_DRIVE, FULL_BREAK, FIRST_PART, SECOND_PART, DAY_DRIVE, LONG_DAY_DRIVE, LONG_DAYS, DAY_LENGTH, REGULAR_DAILY_REST, DAY_BEFORE_REST, SPLIT_REST, REDUCED_RESTS, WEEKLY_SPAN, WEEK_DRIVE, FORTNIGHT_DRIVE, WEEK_WORK, SEVENTEEN_WEEKS_WORK, PAUSE, UNPAUSED_WORK, SHORT_PAUSES, BRIEFLY_PAUSED_WORK, LONG_PAUSES}
 use Rattle.hours_rules.specs.declared.clocks.Clock.{Clock}
 use Rattle.hours_rules.specs.declared.rules.Rule.{Rule}
 use Rattle.hours_rules.specs.declared.rules.Rule.TheVariants.{H1, H2, H3, H4, H5, H6, H7, H8, H9, H10, H11, H12}
@@ -26,26 +28,26 @@ daily_here c kind = nat_le 1 c.off && is_daily kind
 
 -- it ends as a full break
 abbrev pub break_here : Clock → Bool
-break_here c = nat_le 45 c.off || (nat_le 30 c.off && c.half)
+break_here c = nat_le FULL_BREAK c.off || (nat_le SECOND_PART c.off && c.half)
 
 -- it ends a long day that counts
 abbrev pub long_here : Clock → Kind → Bool
-long_here c kind = rest_here c kind && (nat_lt 540 c.drive_day && nat_lt c.off c.at)
+long_here c kind = rest_here c kind && (nat_lt DAY_DRIVE c.drive_day && nat_lt c.off c.at)
 
 -- it ends as a reduced daily rest
 abbrev pub reduced_here : Clock → Kind → Bool
 reduced_here c kind =
     daily_here c kind && (not c.split
-    && (nat_lt c.off 660 || int_lt (pos 780) ((pos c.at -ℤ c.day_from) -ℤ pos c.off)))
+    && (nat_lt c.off REGULAR_DAILY_REST || int_lt (pos DAY_BEFORE_REST) ((pos c.at -ℤ c.day_from) -ℤ pos c.off)))
 
 -- it ends as a rest that pays what is owed
 abbrev pub paying_here : Clock → Kind → Bool
 paying_here c kind =
-    (daily_here c kind && nat_le (660 + c.owed) c.off) || (weekly_here c kind && nat_le (2700 + c.owed) c.off)
+    (daily_here c kind && nat_le (REGULAR_DAILY_REST + c.owed) c.off) || (weekly_here c kind && nat_le (REGULAR_WEEKLY_REST + c.owed) c.off)
 
 -- it ends as a reduced weekly rest where nothing is owed yet
 abbrev pub owing_here : Clock → Kind → Bool
-owing_here c kind = weekly_here c kind && (nat_lt c.off 2700 && nat_eq c.owed 0)
+owing_here c kind = weekly_here c kind && (nat_lt c.off REGULAR_WEEKLY_REST && nat_eq c.owed 0)
 
 -- it is too short for what it is declared to be
 abbrev pub short_here : Clock → Kind → Bool
@@ -58,16 +60,16 @@ run_ended c kind = record c {
   day_from = if rest_here c kind then pos c.at else c.day_from;
   rest_from = if weekly_here c kind then pos c.at else c.rest_from;
   period = if break_here c then 0 else c.period;
-  half = if break_here c then false else (nat_le 15 c.off || c.half);
+  half = if break_here c then false else (nat_le FIRST_PART c.off || c.half);
   drive_day = if rest_here c kind then 0 else c.drive_day;
   long_days = (if long_here c kind then 1 else 0) + c.long_days;
-  split = if rest_here c kind then false else (nat_le 180 c.off || c.split);
+  split = if rest_here c kind then false else (nat_le SPLIT_REST c.off || c.split);
   reduced = if weekly_here c kind then 0 else ((if reduced_here c kind then 1 else 0) + c.reduced);
   prev_weekly = if weekly_here c kind then c.off else c.prev_weekly;
-  work_run = if nat_le 15 c.off then 0 else c.work_run;
+  work_run = if nat_le PAUSE c.off then 0 else c.work_run;
   work_day = if rest_here c kind then 0 else c.work_day;
-  pause_day = if rest_here c kind then 0 else min 45 ((if nat_le 15 c.off then c.off else 0) + c.pause_day);
-  owed = if paying_here c kind then 0 else (if owing_here c kind then 2700 - c.off else c.owed);
+  pause_day = if rest_here c kind then 0 else min LONG_PAUSES ((if nat_le PAUSE c.off then c.off else 0) + c.pause_day);
+  owed = if paying_here c kind then 0 else (if owing_here c kind then REGULAR_WEEKLY_REST - c.off else c.owed);
   due =
       if paying_here c kind then pos 0
       else (if owing_here c kind then third_week_end (pos c.at -ℤ pos 1) else c.due);
@@ -107,23 +109,23 @@ left_until limit from at = if int_le ((pos at -ℤ from)) (pos limit) then nat_a
 
 -- how many minutes are left until the last one at which a rest that pays what is owed can begin
 abbrev pub debt_room : Clock → ℕ
-debt_room e = limit_if (nat_lt 0 e.owed) (min unlimited (left_until 0 (e.due -ℤ pos (660 + e.owed)) e.at))
+debt_room e = limit_if (nat_lt 0 e.owed) (min unlimited (left_until 0 (e.due -ℤ pos (REGULAR_DAILY_REST + e.owed)) e.at))
 
 -- how many minutes of one on-duty mark may follow by a rule, where `c` is the clock before them and `e` the clock once
 -- its open run has ended
 abbrev pub room : Clock → Clock → Mark → Kind → Rule → ℕ
-room c e mark kind H1 = limit_if (is_drive mark) (270 - e.period)
-room c e mark kind H2 = limit_if (is_drive mark) ((if nat_lt e.long_days 2 then 600 else 540) - e.drive_day)
-room c e mark kind H3 = left_until 900 e.day_from e.at
-room c e mark kind H4 = if nat_le e.reduced 3 then unlimited else 0
+room c e mark kind H1 = limit_if (is_drive mark) (PERIOD_DRIVE - e.period)
+room c e mark kind H2 = limit_if (is_drive mark) ((if nat_lt e.long_days LONG_DAYS then LONG_DAY_DRIVE else DAY_DRIVE) - e.drive_day)
+room c e mark kind H3 = left_until DAY_LENGTH e.day_from e.at
+room c e mark kind H4 = if nat_le e.reduced REDUCED_RESTS then unlimited else 0
 room c e mark kind H5 = if short_here c kind then 0 else unlimited
-room c e mark kind H6 = left_until 8640 e.rest_from e.at
-room c e mark kind H7 = limit_if (is_drive mark) (3360 - e.drive_week)
-room c e mark kind H8 = limit_if (is_drive mark) (5400 - (e.drive_week + e.prev_drive))
-room c e mark kind H9 = limit_if (is_working mark) (min (3600 - e.work_week) (48960 - (e.work_week + e.work_before)))
-room c e mark kind H10 = limit_if (is_working mark) (360 - e.work_run)
+room c e mark kind H6 = left_until WEEKLY_SPAN e.rest_from e.at
+room c e mark kind H7 = limit_if (is_drive mark) (WEEK_DRIVE - e.drive_week)
+room c e mark kind H8 = limit_if (is_drive mark) (FORTNIGHT_DRIVE - (e.drive_week + e.prev_drive))
+room c e mark kind H9 = limit_if (is_working mark) (min (WEEK_WORK - e.work_week) (SEVENTEEN_WEEKS_WORK - (e.work_week + e.work_before)))
+room c e mark kind H10 = limit_if (is_working mark) (UNPAUSED_WORK - e.work_run)
 room c e mark kind H11 =
-    limit_if (is_working mark && nat_lt e.pause_day 45) ((if nat_lt e.pause_day 30 then 360 else 540) - e.work_day)
+    limit_if (is_working mark && nat_lt e.pause_day LONG_PAUSES) ((if nat_lt e.pause_day SHORT_PAUSES then UNPAUSED_WORK else BRIEFLY_PAUSED_WORK) - e.work_day)
 room c e mark kind H12 = debt_room e
 
 -- the least room by some rules, and at most n

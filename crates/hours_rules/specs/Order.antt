@@ -4,6 +4,9 @@ use Rattle.minute_line.specs.declared.marks.Mark.TheVariants.{Ready}
 use Rattle.minute_line.specs.declared.marks.Kind.TheVariants.{Plain}
 use Rattle.minute_line.specs.Marks.{is_duty}
 use Rattle.minute_line.specs.Minutes.{Minute, Minutes, stretch}
+use Rattle.minute_line.specs.declared.debts.TheConstants.{REGULAR_WEEKLY_REST}
+use Rattle.minute_line.specs.declared.lines.TheConstants.{WEEK_MINUTES}
+use Rattle.hours_rules.specs.declared.thresholds.TheConstants.{DAY_LENGTH, WEEKLY_SPAN, REDUCED_RESTS, REGULAR_DAILY_REST}
 use Rattle.hours_rules.specs.declared.clocks.Clock.{Clock}
 use Rattle.hours_rules.specs.Rules.{Past, fault_from, failing}
 use Rattle.hours_rules.specs.Standing.{Stands}
@@ -21,7 +24,7 @@ pub record DominatesAtMinute (a b : Clock) : Type 0 where
   pub long_days : a.long_days ≤ b.long_days
   pub split : b.split ≡ true → a.split ≡ true
   pub reduced : a.reduced ≤ b.reduced
-  pub prev_weekly : 2700 ≤ b.prev_weekly → 2700 ≤ a.prev_weekly
+  pub prev_weekly : REGULAR_WEEKLY_REST ≤ b.prev_weekly → REGULAR_WEEKLY_REST ≤ a.prev_weekly
   pub work_run : a.work_run ≤ b.work_run
   pub work_day : a.work_day ≤ b.work_day
   pub pause_day : b.pause_day ≤ a.pause_day
@@ -54,16 +57,16 @@ pub record IsEarlier (a b : Clock) : Type 0 where
 
 -- the clock keeps the limits that are judged at any on-duty minute (Art. 8): a debt can still be paid in time
 pub record IsRested (c : Clock) : Type 0 where
-  pub day : (pos c.at -ℤ c.day_from) ≤ℤ pos 900
-  pub week : (pos c.at -ℤ c.rest_from) ≤ℤ pos 8640
-  pub reduced : c.reduced ≤ 3
-  pub debt : 0 < c.owed → pos (c.at + 660 + c.owed) ≤ℤ c.due
+  pub day : (pos c.at -ℤ c.day_from) ≤ℤ pos DAY_LENGTH
+  pub week : (pos c.at -ℤ c.rest_from) ≤ℤ pos WEEKLY_SPAN
+  pub reduced : c.reduced ≤ REDUCED_RESTS
+  pub debt : 0 < c.owed → pos (c.at + REGULAR_DAILY_REST + c.owed) ≤ℤ c.due
 
 -- a clock at an earlier minute that is as good is brought to the later one's minute by Ready minutes, with no rule
 -- broken, and is then as good in every field; the later one keeps the limits of an on-duty minute
 abbrev pub ReadyCatchesUp : Type 0
 ReadyCatchesUp = (a b : Clock) (pa pb : Past) (wa wb : Minutes) → Stands a pa wa → Stands b pb wb → IsEarlier a b →
-    IsRested b → b.at ≤ 10080 →
+    IsRested b → b.at ≤ WEEK_MINUTES →
     Together pa pb (stretch (b.at - a.at) Ready Plain wa) wb
     × (fault_from (length wa) pa (stretch (b.at - a.at) Ready Plain wa) ≡ None)
 
@@ -84,7 +87,7 @@ pub record ClockDominates (a b : Clock) : Type 0 where
   pub long_days : a.long_days ≤ b.long_days
   pub split : b.split ≡ true → a.split ≡ true
   pub reduced : a.reduced ≤ b.reduced
-  pub prev_weekly : 2700 ≤ b.prev_weekly → 2700 ≤ a.prev_weekly
+  pub prev_weekly : REGULAR_WEEKLY_REST ≤ b.prev_weekly → REGULAR_WEEKLY_REST ≤ a.prev_weekly
   pub work_run : a.work_run ≤ b.work_run
   pub work_day : a.work_day ≤ b.work_day
   pub pause_day : b.pause_day ≤ a.pause_day

@@ -3,6 +3,8 @@ use Rattle.std.specs.Prelude.{ℕ, ◌+◌, Bool, not, ◌&&◌, ◌||◌, nat_e
 use Rattle.minute_line.specs.declared.marks.Kind.{Kind}
 use Rattle.minute_line.specs.declared.marks.Kind.TheVariants.{Plain, Daily, Weekly}
 use Rattle.minute_line.specs.Minutes.{Minute, Minutes}
+use Rattle.minute_line.specs.declared.debts.TheConstants.{REGULAR_WEEKLY_REST}
+use Rattle.hours_rules.specs.declared.thresholds.TheConstants.{PERIOD_DRIVE, DAY_DRIVE, LONG_DAY_DRIVE, LONG_DAYS, DAY_LENGTH, DAILY_REST, REGULAR_DAILY_REST, WEEKLY_REST, REDUCED_RESTS, WEEKLY_SPAN, WEEK_DRIVE, FORTNIGHT_DRIVE, WEEK_WORK, SEVENTEEN_WEEKS_WORK, PAUSE, UNPAUSED_WORK, SHORT_PAUSES, BRIEFLY_PAUSED_WORK, LONG_PAUSES}
 use Rattle.hours_rules.specs.declared.rules.Rule.{Rule}
 use Rattle.hours_rules.specs.declared.rules.Rule.TheVariants.{H1, H2, H3, H4, H5, H6, H7, H8, H9, H10, H11, H12}
 use Rattle.hours_rules.specs.declared.rules.Broken.{Broken}
@@ -35,38 +37,39 @@ long_days_of past (m ∷ week) = (if ends_long past m week then 1 else 0) + long
 -- owed (Art. 4, 8(6))
 abbrev pub least_rest : Kind → ℕ → ℕ → ℕ
 least_rest Plain weekly owed = 0
-least_rest Daily weekly owed = 540
-least_rest Weekly weekly owed = if nat_lt weekly 2700 || nat_lt 0 owed then 2700 else 1440
+least_rest Daily weekly owed = DAILY_REST
+least_rest Weekly weekly owed = if nat_lt weekly REGULAR_WEEKLY_REST || nat_lt 0 owed then REGULAR_WEEKLY_REST else WEEKLY_REST
 
 -- the rule holds at the minute m, which follows `week`; each has the articles that `Rule` names
 abbrev pub holds : Past → Minute → Minutes → Rule → Bool
 holds past m week H1 =
-    not (is_drive m.mark) || nat_le (count is_drive (period_of (whole past (m ∷ week)))) 270
+    not (is_drive m.mark) || nat_le (count is_drive (period_of (whole past (m ∷ week)))) PERIOD_DRIVE
 holds past m week H2 =
     not (is_drive m.mark) || nat_le (count is_drive (work_day_of (whole past (m ∷ week))))
-    (if nat_lt (long_days_of past.minutes (m ∷ week)) 2 then 600 else 540)
-holds past m week H3 = not (is_duty m.mark) || nat_le (length (work_day_of (whole past (m ∷ week)))) 900
+    (if nat_lt (long_days_of past.minutes (m ∷ week)) LONG_DAYS then LONG_DAY_DRIVE else DAY_DRIVE)
+holds past m week H3 = not (is_duty m.mark) || nat_le (length (work_day_of (whole past (m ∷ week)))) DAY_LENGTH
 holds past m week H4 =
-    not (is_duty m.mark) || nat_le (times ends_reduced (since_weekly (whole past (m ∷ week)))) 3
+    not (is_duty m.mark) || nat_le (times ends_reduced (since_weekly (whole past (m ∷ week)))) REDUCED_RESTS
 holds past m week H5 =
     not (ends_run 1 m (whole past week))
     || nat_le (least_rest m.kind (last_weekly past.prev_weekly (whole past week)) (debt_of past week).owed)
     (open_run (whole past week))
-holds past m week H6 = not (is_duty m.mark) || nat_le (length (since_weekly (whole past (m ∷ week)))) 8640
-holds past m week H7 = not (is_drive m.mark) || nat_le (count is_drive (m ∷ week)) 3360
-holds past m week H8 = not (is_drive m.mark) || nat_le (count is_drive (m ∷ week) + past.prev_drive) 5400
+holds past m week H6 = not (is_duty m.mark) || nat_le (length (since_weekly (whole past (m ∷ week)))) WEEKLY_SPAN
+holds past m week H7 = not (is_drive m.mark) || nat_le (count is_drive (m ∷ week)) WEEK_DRIVE
+holds past m week H8 = not (is_drive m.mark) || nat_le (count is_drive (m ∷ week) + past.prev_drive) FORTNIGHT_DRIVE
 holds past m week H9 =
-    not (is_working m.mark) || (nat_le (count is_working (m ∷ week)) 3600
-    && nat_le (count is_working (m ∷ week) + past.work_before) 48960)
+    not (is_working m.mark) || (nat_le (count is_working (m ∷ week)) WEEK_WORK
+    && nat_le (count is_working (m ∷ week) + past.work_before) SEVENTEEN_WEEKS_WORK)
 holds past m week H10 =
-    not (is_working m.mark) || nat_le (count is_working (since_pause (whole past (m ∷ week)))) 360
+    not (is_working m.mark) || nat_le (count is_working (since_pause (whole past (m ∷ week)))) UNPAUSED_WORK
 holds past m week H11 =
     let worked = count is_working (work_day_of (whole past (m ∷ week))) in
-    let paused = off_in_runs 15 (work_day_of (whole past (m ∷ week))) in
-    not (is_working m.mark) || ((nat_lt worked 361 || nat_le 30 paused) && (nat_lt worked 541 || nat_le 45 paused))
+    let paused = off_in_runs PAUSE (work_day_of (whole past (m ∷ week))) in
+    not (is_working m.mark) || ((nat_lt worked (UNPAUSED_WORK + 1) || nat_le SHORT_PAUSES paused)
+    && (nat_lt worked (BRIEFLY_PAUSED_WORK + 1) || nat_le LONG_PAUSES paused))
 holds past m week H12 =
     let debt = debt_of past (m ∷ week) in
-    not (is_duty m.mark) || (nat_eq debt.owed 0 || int_le (pos (length (m ∷ week) + 660 + debt.owed)) debt.due)
+    not (is_duty m.mark) || (nat_eq debt.owed 0 || int_le (pos (length (m ∷ week) + REGULAR_DAILY_REST + debt.owed)) debt.due)
 
 -- the number in a rule's name
 abbrev pub rule_number : Rule → ℕ

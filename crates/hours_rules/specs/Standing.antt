@@ -1,6 +1,7 @@
 -- What the fields of a clock are the numbers of.
 use Rattle.std.specs.Prelude.{◌≡◌, ◌≤◌, length, pos, ◌-ℤ◌, ◌≤ℤ◌, min}
 use Rattle.minute_line.specs.Minutes.{Minutes}
+use Rattle.hours_rules.specs.declared.thresholds.TheConstants.{FIRST_PART, SPLIT_REST, PAUSE, LONG_PAUSES}
 use Rattle.hours_rules.specs.declared.clocks.Clock.{Clock}
 use Rattle.minute_line.specs.Marks.{is_drive, is_working}
 use Rattle.hours_rules.specs.Counts.{count, open_run, has_run, work_day_of, since_weekly, since_pause, period_of, ends_reduced, times, off_in_runs, last_weekly}
@@ -14,15 +15,15 @@ pub record Stands (clock : Clock) (past : Past) (week : Minutes) : Type 0 where
   pub day_from : clock.day_from ≡ pos (length week) -ℤ pos (length (work_day_of (whole past week)))
   pub rest_from : clock.rest_from ≡ pos (length week) -ℤ pos (length (since_weekly (whole past week)))
   pub period : clock.period ≡ count is_drive (period_of (whole past week))
-  pub half : clock.half ≡ has_run 15 (period_of (whole past week))
+  pub half : clock.half ≡ has_run FIRST_PART (period_of (whole past week))
   pub drive_day : clock.drive_day ≡ count is_drive (work_day_of (whole past week))
   pub long_days : clock.long_days ≡ long_days_of past.minutes week
-  pub split : clock.split ≡ has_run 180 (work_day_of (whole past week))
+  pub split : clock.split ≡ has_run SPLIT_REST (work_day_of (whole past week))
   pub reduced : clock.reduced ≡ times ends_reduced (since_weekly (whole past week))
   pub prev_weekly : clock.prev_weekly ≡ last_weekly past.prev_weekly (whole past week)
   pub work_run : clock.work_run ≡ count is_working (since_pause (whole past week))
   pub work_day : clock.work_day ≡ count is_working (work_day_of (whole past week))
-  pub pause_day : clock.pause_day ≡ min 45 (off_in_runs 15 (work_day_of (whole past week)))
+  pub pause_day : clock.pause_day ≡ min LONG_PAUSES (off_in_runs PAUSE (work_day_of (whole past week)))
   pub drive_week : clock.drive_week ≡ count is_drive week
   pub work_week : clock.work_week ≡ count is_working week
   pub prev_drive : clock.prev_drive ≡ past.prev_drive

@@ -14,6 +14,7 @@ mod plain;
 mod rules;
 #[cfg(test)]
 mod tests;
+mod thresholds;
 
 pub use clocks::{Clock, Stay};
 pub use going::go;
@@ -23,3 +24,9 @@ pub use laws::{
     last_keeps_limits, order_lasts, ready_catches_up, spans_begin, thirty_then_fifteen_end_none,
 };
 pub use rules::{Broken, Rule, Verdict, number};
+pub use thresholds::{
+    BRIEFLY_PAUSED_WORK, DAILY_REST, DAY_BEFORE_REST, DAY_DRIVE, DAY_LENGTH, FIRST_PART,
+    FORTNIGHT_DRIVE, FULL_BREAK, LONG_DAY_DRIVE, LONG_DAYS, LONG_PAUSES, PAUSE, PERIOD_DRIVE,
+    REDUCED_RESTS, REGULAR_DAILY_REST, SECOND_PART, SEVENTEEN_WEEKS_WORK, SHORT_PAUSES, SPLIT_REST,
+    UNPAUSED_WORK, WEEK_DRIVE, WEEK_WORK, WEEKLY_REST, WEEKLY_SPAN,
+};

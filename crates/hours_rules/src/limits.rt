@@ -4,8 +4,13 @@ ghost use Rattle.hours_rules.specs.Machine.{room, short_here, debt_room, limit_i
 ghost use Rattle.hours_rules.specs.Rules.{least_rest, all_rules};
 ghost use Rattle.hours_rules.specs.Bounds.{IsWithin};
 
+use crate::thresholds::{
+    BRIEFLY_PAUSED_WORK, DAILY_REST, DAY_DRIVE, DAY_LENGTH, FORTNIGHT_DRIVE, LONG_DAY_DRIVE,
+    LONG_DAYS, LONG_PAUSES, PERIOD_DRIVE, REDUCED_RESTS, REGULAR_DAILY_REST, SEVENTEEN_WEEKS_WORK,
+    SHORT_PAUSES, UNPAUSED_WORK, WEEK_DRIVE, WEEK_WORK, WEEKLY_REST, WEEKLY_SPAN,
+};
 use crate::{Broken, Clock, Rule};
-use minute_line::{Kind, Mark};
+use minute_line::{Kind, Mark, REGULAR_WEEKLY_REST};
 
 /// More minutes than a line has.
 const UNLIMITED: u32 = 20000;
@@ -34,9 +39,9 @@ fn least_run(kind: Kind, weekly: u32, owed: u32) -> u32
 {
     match kind {
         Kind::Plain => 0,
-        Kind::Daily => 540,
-        Kind::Weekly if weekly < 2700 || owed > 0 => 2700,
-        Kind::Weekly => 1440,
+        Kind::Daily => DAILY_REST,
+        Kind::Weekly if weekly < REGULAR_WEEKLY_REST || owed > 0 => REGULAR_WEEKLY_REST,
+        Kind::Weekly => WEEKLY_REST,
     }
 }
 
@@ -71,7 +76,7 @@ impl Clock {
         requires { IsWithin 100000 self.now }
         ensures { result ≡ left_until 900 self.now.day_from self.now.at }
     {
-        left_until(900, self.day_from, self.at)
+        left_until(DAY_LENGTH, self.day_from, self.at)
     }
 
     /// How many minutes are left of the first 8,640 after the last weekly rest.
@@ -80,7 +85,7 @@ impl Clock {
         requires { IsWithin 100000 self.now }
         ensures { result ≡ left_until 8640 self.now.rest_from self.now.at }
     {
-        left_until(8640, self.rest_from, self.at)
+        left_until(WEEKLY_SPAN, self.rest_from, self.at)
     }
 
     /// How many Drive minutes are left of the work day: 540, or 600 on two days of the week.
@@ -88,7 +93,11 @@ impl Clock {
     fn drive_left(&self) -> u32
         ensures { result ≡ (if nat_lt self.now.long_days 2 then 600 else 540) - self.now.drive_day }
     {
-        let limit: u32 = if self.long_days < 2 { 600 } else { 540 };
+        let limit = if self.long_days < LONG_DAYS {
+            LONG_DAY_DRIVE
+        } else {
+            DAY_DRIVE
+        };
         limit.saturating_sub(self.drive_day)
     }
 
@@ -98,8 +107,8 @@ impl Clock {
         requires { IsWithin 100000 self.now }
         ensures { result ≡ min (3600 - self.now.work_week) (48960 - (self.now.work_week + self.now.work_before)) }
     {
-        let four_months = 48960u32.saturating_sub(self.work_week + self.work_before);
-        3600u32.saturating_sub(self.work_week).min(four_months)
+        let four_months = SEVENTEEN_WEEKS_WORK.saturating_sub(self.work_week + self.work_before);
+        WEEK_WORK.saturating_sub(self.work_week).min(four_months)
     }
 
     /// How many working minutes are left until the work day wants more pauses than it has.
@@ -107,10 +116,14 @@ impl Clock {
     fn pause_left(&self) -> u32
         ensures { result ≡ limit_if (nat_lt self.now.pause_day 45) ((if nat_lt self.now.pause_day 30 then 360 else 540) - self.now.work_day) }
     {
-        if self.pause_day >= 45 {
+        if self.pause_day >= LONG_PAUSES {
             return UNLIMITED;
         }
-        let limit: u32 = if self.pause_day < 30 { 360 } else { 540 };
+        let limit = if self.pause_day < SHORT_PAUSES {
+            UNPAUSED_WORK
+        } else {
+            BRIEFLY_PAUSED_WORK
+        };
         limit.saturating_sub(self.work_day)
     }
 
@@ -132,7 +145,7 @@ impl Clock {
         if self.owed == 0 {
             return UNLIMITED;
         }
-        let last = self.due - (660 + self.owed) as i32;
+        let last = self.due - (REGULAR_DAILY_REST + self.owed) as i32;
         UNLIMITED.min(left_until(0, last, self.at))
     }
 
@@ -144,19 +157,19 @@ impl Clock {
         let drive = mark.is_drive();
         let working = mark.is_working();
         match rule {
-            Rule::H1 => limit_if(drive, 270u32.saturating_sub(ended.period)),
+            Rule::H1 => limit_if(drive, PERIOD_DRIVE.saturating_sub(ended.period)),
             Rule::H2 => limit_if(drive, ended.drive_left()),
             Rule::H3 => ended.day_left(),
-            Rule::H4 => limit_if(ended.reduced > 3, 0),
+            Rule::H4 => limit_if(ended.reduced > REDUCED_RESTS, 0),
             Rule::H5 => limit_if(self.is_short(kind), 0),
             Rule::H6 => ended.rest_left(),
-            Rule::H7 => limit_if(drive, 3360u32.saturating_sub(ended.drive_week)),
+            Rule::H7 => limit_if(drive, WEEK_DRIVE.saturating_sub(ended.drive_week)),
             Rule::H8 => limit_if(
                 drive,
-                5400u32.saturating_sub(ended.drive_week + ended.prev_drive),
+                FORTNIGHT_DRIVE.saturating_sub(ended.drive_week + ended.prev_drive),
             ),
             Rule::H9 => limit_if(working, ended.work_left()),
-            Rule::H10 => limit_if(working, 360u32.saturating_sub(ended.work_run)),
+            Rule::H10 => limit_if(working, UNPAUSED_WORK.saturating_sub(ended.work_run)),
             Rule::H11 => limit_if(working, ended.pause_left()),
             Rule::H12 => ended.debt_left(),
         }
@@ -168,7 +181,7 @@ impl Clock {
         requires within { IsWithin 100000 ended.now }
         ensures { IsDutyRoom self.now ended.now kind result }
     {
-        if ended.reduced > 3 || self.is_short(kind) {
+        if ended.reduced > REDUCED_RESTS || self.is_short(kind) {
             return 0;
         }
         ended
@@ -184,7 +197,7 @@ impl Clock {
         ensures { result ≡ work_room self.now }
     {
         self.work_left()
-            .min(360u32.saturating_sub(self.work_run))
+            .min(UNPAUSED_WORK.saturating_sub(self.work_run))
             .min(self.pause_left())
     }
 
@@ -194,9 +207,9 @@ impl Clock {
         requires { IsWithin 100000 self.now }
         ensures { result ≡ drive_room self.now }
     {
-        let week = 3360u32.saturating_sub(self.drive_week);
-        let fortnight = 5400u32.saturating_sub(self.drive_week + self.prev_drive);
-        270u32
+        let week = WEEK_DRIVE.saturating_sub(self.drive_week);
+        let fortnight = FORTNIGHT_DRIVE.saturating_sub(self.drive_week + self.prev_drive);
+        PERIOD_DRIVE
             .saturating_sub(self.period)
             .min(self.drive_left())
             .min(week)

@@ -5,6 +5,10 @@ ghost use Rattle.hours_rules.specs.Machine.{rest_here, weekly_here, break_here, 
 ghost use Rattle.hours_rules.specs.Bounds.{IsWithin};
 
 use crate::Clock;
+use crate::thresholds::{
+    DAY_BEFORE_REST, DAY_DRIVE, FIRST_PART, FULL_BREAK, LONG_PAUSES, PAUSE, REGULAR_DAILY_REST,
+    SECOND_PART, SPLIT_REST,
+};
 use minute_line::{Kind, Mark, REGULAR_WEEKLY_REST, WEEK_MINUTES};
 
 /// `count` where the test holds, or else none.
@@ -54,7 +58,7 @@ impl Clock {
     fn ends_break(&self) -> bool
         ensures { result ≡ break_here self.now }
     {
-        self.off >= 45 || (self.off >= 30 && self.half)
+        self.off >= FULL_BREAK || (self.off >= SECOND_PART && self.half)
     }
 
     /// Whether it ends a long day that counts: more than 540 Drive minutes, and the rest begins within the week.
@@ -62,7 +66,7 @@ impl Clock {
     fn ends_long(&self, kind: Kind) -> bool
         ensures { result ≡ long_here self.now kind }
     {
-        self.ends_rest(kind) && self.drive_day > 540 && self.off < self.at
+        self.ends_rest(kind) && self.drive_day > DAY_DRIVE && self.off < self.at
     }
 
     /// Whether it ends as a reduced daily rest: no run of 180 lies before it in its day, and it is shorter than 660 or
@@ -75,7 +79,8 @@ impl Clock {
         self.off >= 1
             && kind.is_daily()
             && !self.split
-            && (self.off < 660 || self.at as i32 - self.day_from - self.off as i32 > 780)
+            && (self.off < REGULAR_DAILY_REST
+                || self.at as i32 - self.day_from - self.off as i32 > DAY_BEFORE_REST as i32)
     }
 
     /// Whether it ends as a rest that pays what is owed: a regular daily or weekly rest that is longer by the debt (Art. 8(7)).
@@ -86,7 +91,7 @@ impl Clock {
     {
         match kind {
             Kind::Plain => false,
-            Kind::Daily => self.off >= 660 + self.owed,
+            Kind::Daily => self.off >= REGULAR_DAILY_REST + self.owed,
             Kind::Weekly => self.off >= REGULAR_WEEKLY_REST + self.owed,
         }
     }
@@ -164,7 +169,7 @@ impl Clock {
     fn keeps_part(&self, full: bool) -> bool
         ensures { result ≡ (if full then false else (nat_le 15 self.now.off || self.now.half)) }
     {
-        !full && (self.off >= 15 || self.half)
+        !full && (self.off >= FIRST_PART || self.half)
     }
 
     /// Whether the work day has a run of 180, unless a rest ends it.
@@ -172,7 +177,7 @@ impl Clock {
     fn keeps_split(&self, rest: bool) -> bool
         ensures { result ≡ (if rest then false else (nat_le 180 self.now.off || self.now.split)) }
     {
-        !rest && (self.off >= 180 || self.split)
+        !rest && (self.off >= SPLIT_REST || self.split)
     }
 
     /// The clock once its open run, declared to be of this kind, has ended.
@@ -189,7 +194,7 @@ impl Clock {
         let full = self.ends_break();
         let long = self.ends_long(kind);
         let reduced = self.ends_reduced(kind);
-        let part = self.off >= 15;
+        let part = self.off >= PAUSE;
         let paused = if_so(part, self.off) + self.pause_day;
         let paying = self.ends_paying(kind);
         let owing = self.ends_owing(kind);
@@ -206,7 +211,7 @@ impl Clock {
             prev_weekly: self.weekly_length(weekly),
             work_run: unless(part, self.work_run),
             work_day: unless(rest, self.work_day),
-            pause_day: unless(rest, paused.min(45)),
+            pause_day: unless(rest, paused.min(LONG_PAUSES)),
             owed: self.owed_after(paying, owing),
             due: self.due_after(paying, owing),
             ..*self

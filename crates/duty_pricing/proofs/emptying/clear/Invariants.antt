@@ -1,0 +1,6 @@
+-- The numbers so far are 0.
+use Rattle.std.proofs.Common.{◌≡◌, ◌<◌, ℕ, get_or}
+use Rattle.duty_pricing.proofs.emptying.clear.Given as goal
+
+abbrev pub invariant-loop-number : goal.invariant-loop-number
+invariant-loop-number l = (k : ℕ) → k < l.number-index → get_or l.numbers k 0 ≡ 0

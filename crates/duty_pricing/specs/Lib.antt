@@ -1,0 +1,10 @@
+pub mod Exhausting
+pub mod Listing
+pub mod Storing
+pub mod Slots
+pub mod Holding
+pub mod Asking
+pub mod Searching
+pub mod Visiting
+pub mod Finding
+pub mod Chunking

@@ -1,0 +1,31 @@
+//! The least duty of one driver, found by labels. Times are whole minutes, money is in cents, loads are in kg; drivers,
+//! places and orders count from 0.
+#![tactic(auto)]
+
+mod acts;
+mod adding;
+mod asking;
+mod chunks;
+mod claiming;
+mod emptying;
+mod forcing;
+mod giving;
+mod hoping;
+mod insides;
+mod laws;
+mod numbers;
+mod pricing;
+mod scratch;
+mod slots;
+mod stays;
+mod steps;
+mod stores;
+#[cfg(test)]
+mod tests;
+mod tried;
+mod visits;
+
+pub use laws::exhaust;
+pub use pricing::Found;
+pub use scratch::{Scratch, give_back, make_scratch, price_driver};
+pub use slots::Slot;

@@ -1,0 +1,111 @@
+// What the pricing of a driver works with, which is made once, and its calls.
+ghost use Rattle.std.specs.Prelude.{◌≡◌, ◌<◌, ◌≤◌, IfOk, length};
+ghost use Rattle.duty_plan.specs.Duties.{IsCase};
+ghost use Rattle.duty_plan.specs.Values.{IsPairs, IsPrices};
+ghost use Rattle.duty_plan.specs.SharedRounds.{IsSeatOf};
+ghost use Rattle.label_arena.specs.Views.{IsNew};
+ghost use Rattle.duty_pricing.specs.Finding.{HasRoom, HoldsScratch, IsEmpty, IsFoundFor, entries_in};
+ghost use Rattle.duty_pricing.specs.Holding.{HasGivenAll};
+
+use crate::asking::Asked;
+use crate::emptying::make_store;
+use crate::forcing::forced;
+use crate::pricing::Found;
+use crate::slots::Slot;
+use crate::stores::LabelStore;
+use duty_beam::{Beam, make_beam};
+use duty_label::{Walks, make_walks};
+use duty_outlook::{Outlook, make_outlook};
+use duty_plan::{Case, Pairs, Prices, Step};
+use label_arena::{Round, Seat};
+use minute_line::Memory;
+use std::alloc::Global;
+
+/// The entries of an outlook, of 272 bytes each.
+const ENTRIES: u32 = 62_000;
+
+/// The labels that the widest search for a good duty goes on with in a quarter of an hour.
+const WIDEST: u32 = 64;
+
+/// The room of a pricing.
+#[derive(Drop)]
+pub struct Scratch {
+    pub(crate) walks: Walks,
+    pub(crate) outlook: Outlook,
+    pub(crate) beam: Beam,
+    pub(crate) labels: LabelStore,
+}
+
+/// A scratch, with room for the labels of 2,048 chunks. No other call of this crate takes memory.
+pub fn make_scratch(alloc: Global) -> Result<Scratch, Memory>
+    ensures { IfOk result IsEmpty }
+{
+    Ok(Scratch {
+        walks: make_walks(alloc)?,
+        outlook: make_outlook(alloc, ENTRIES)?,
+        beam: make_beam(alloc)?,
+        labels: make_store(alloc)?,
+    })
+}
+
+impl Scratch {
+    /// The steps of the duty that was found to be the least.
+    pub fn steps(&self) -> &[Step]
+        ensures { result.now ≡ self.now.labels.steps }
+    {
+        self.labels.steps.as_slice()
+    }
+}
+
+/// The least value of a driver, at pairs and prices, with the duty in the scratch's steps. Its labels stay in the scratch.
+pub fn price_driver(
+    case: &Case,
+    driver: u32,
+    pairs: &Pairs,
+    prices: &Prices,
+    round: &Round<Slot>,
+    seat: &mut Seat<Slot>,
+    scratch: &mut Scratch,
+) -> Found
+    requires case { IsCase case.now }
+    requires driver { driver < length case.now.week.drivers }
+    requires pairs { IsPairs case.now.week pairs.now }
+    requires prices { IsPrices case.now.week prices.now }
+    requires few { round.now.chunks ≤ 2048 }
+    requires seat { IsNew round.now.name seat.old }
+    requires empty { IsEmpty scratch.old }
+    ensures found { IsFoundFor round.now.chunks case.now driver pairs.now prices.now seat.new.drawn scratch.new result }
+    ensures seat { IsSeatOf round.now.chunks case.now driver pairs.now prices.now seat.new.drawn (entries_in scratch.new) }
+    ensures holds { HoldsScratch round.now seat.new scratch.new }
+    ensures room { HasRoom scratch.new }
+{
+    scratch.walks.fill(&case.week);
+    scratch.outlook.fill(case, driver, pairs, prices);
+    let found = scratch
+        .beam
+        .find(case, driver, pairs, prices, &scratch.outlook, WIDEST);
+    let asked = Asked {
+        case,
+        driver,
+        pairs,
+        prices,
+        round,
+        walks: &scratch.walks,
+        outlook: &scratch.outlook,
+        found,
+        steps: scratch.beam.steps(),
+        forced: forced(case, driver, pairs),
+    };
+    scratch.labels.price(&asked, seat)
+}
+
+/// Gives the chunks that a seat holds back to the round, and empties the scratch that has them.
+pub fn give_back(round: &Round<Slot>, seat: &mut Seat<Slot>, scratch: &mut Scratch)
+    requires holds { HoldsScratch round.now seat.old scratch.old }
+    requires room { HasRoom scratch.old }
+    ensures empty { IsEmpty scratch.new }
+    ensures seat { HasGivenAll seat.old seat.new }
+{
+    scratch.labels.give_chunks(round, seat);
+    scratch.labels.forget();
+}

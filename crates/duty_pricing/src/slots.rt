@@ -1,0 +1,22 @@
+// A stored label, with links to earlier ones.
+use duty_plan::{Label, Step};
+
+/// A stored label, the step that it was extended by, and links to other slots. A slot's number is 1,024 times that of its
+/// chunk in the store and its place there.
+#[derive(Clone, Copy, PartialEq, Eq, Debug)]
+pub struct Slot {
+    pub label: Label,
+    /// The last step of the label's steps; of the first slot any step.
+    pub step: Step,
+    /// The number of the slot that it was extended from.
+    pub parent: u32,
+    /// One more than the number of the last earlier slot at the same minute; 0 where there is none.
+    pub same_minute: u32,
+    /// One more than the number of the last earlier slot at the same place; 0 where there is none.
+    pub same_place: u32,
+}
+
+/// The most bytes of a slot.
+const SLOT_LIMIT: usize = 192;
+
+const _: () = prove!(std::mem::size_of::<Slot>() <= SLOT_LIMIT);
