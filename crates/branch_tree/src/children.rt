@@ -15,14 +15,15 @@ use crate::choosing::next_pair;
 use crate::keeping::Kept;
 use crate::pairing::{pairs_of, pairs_under};
 use crate::rounds::{Leaf, run_node};
-use duty_plan::{Case, Decision, Limits, Node, Pricer};
+use duty_plan::{Case, Decision, Gate, Limits, Node, Pricer};
 use minute_line::{Many, Memory};
 use std::alloc::Global;
 use std::thread::Threads;
 
 /// The children of the node of that number, each after its rounds: the forcing one, then the barring one.
-pub(crate) fn children<R: Threads + Sync, P: Pricer>(
+pub(crate) fn children<R: Threads + Sync, G: Gate + Sync, P: Pricer>(
     rt: &R,
+    gate: &G,
     alloc: Global,
     case: &Case,
     limits: &Limits,
@@ -65,6 +66,7 @@ pub(crate) fn children<R: Threads + Sync, P: Pricer>(
     let barred = pairs_under(alloc, &case.week, tree, number, bar)?;
     let one = run_node(
         rt,
+        gate,
         alloc,
         case,
         limits,
@@ -78,6 +80,7 @@ pub(crate) fn children<R: Threads + Sync, P: Pricer>(
     )?;
     let two = run_node(
         rt,
+        gate,
         alloc,
         case,
         limits,

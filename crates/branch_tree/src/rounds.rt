@@ -13,7 +13,7 @@ use crate::answers::{counts, has_none, is_whole, values};
 use crate::keeping::Kept;
 use crate::leaves::{copied, evens, is_decided, state_of};
 use crate::taking::take_round;
-use duty_plan::{Case, Decision, Limits, Node, Pairs, Pricer, Prices};
+use duty_plan::{Case, Decision, Gate, Limits, Node, Pairs, Pricer, Prices};
 use minute_line::{Many, Memory};
 use price_master::{lagrange, next_prices};
 use std::alloc::Global;
@@ -27,8 +27,9 @@ pub(crate) struct Leaf {
 }
 
 /// Runs the rounds of a node from its parent's bound and prices, at the pairs of its path.
-pub(crate) fn run_node<R: Threads + Sync, P: Pricer>(
+pub(crate) fn run_node<R: Threads + Sync, G: Gate + Sync, P: Pricer>(
     rt: &R,
+    gate: &G,
     alloc: Global,
     case: &Case,
     limits: &Limits,
@@ -64,7 +65,7 @@ pub(crate) fn run_node<R: Threads + Sync, P: Pricer>(
     let mut carried = evens(alloc, &case.week)?;
     let mut k = 0;
     loop {
-        let answers = pricer.round(rt, alloc, case, pairs, &now)?;
+        let answers = pricer.round(rt, gate, alloc, case, pairs, &now)?;
         if !is_whole(answers.as_slice()) {
             let state = state_of(has_none(answers.as_slice()), kept.cost <= bound, decided);
             let node = Node {

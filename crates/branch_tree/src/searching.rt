@@ -12,7 +12,7 @@ use crate::ending::{finish, turned_node};
 use crate::keeping::first_kept;
 use crate::pairing::pairs_under;
 use crate::rounds::run_node;
-use duty_plan::{Case, Decision, Limits, Outcome, Pricer};
+use duty_plan::{Case, Decision, Gate, Limits, Outcome, Pricer};
 use minute_line::{Many, Memory};
 use price_master::start_prices;
 use std::alloc::Global;
@@ -20,8 +20,9 @@ use std::thread::Threads;
 
 /// Searches for a cheap plan of the case, within the limits: a lawful plan at its cost, a bound that no lawful plan beats,
 /// and the tree that shows it. Limits with nodes and labels enough for every tree and pricing leave the cost proved.
-pub fn search<R: Threads + Sync, P: Pricer>(
+pub fn search<R: Threads + Sync, G: Gate + Sync, P: Pricer>(
     rt: &R,
+    gate: &G,
     alloc: Global,
     case: &Case,
     limits: &Limits,
@@ -39,6 +40,7 @@ pub fn search<R: Threads + Sync, P: Pricer>(
     let pairs = pairs_under(alloc, &case.week, tree.as_slice(), 0, Decision::Root)?;
     let root = run_node(
         rt,
+        gate,
         alloc,
         case,
         limits,
@@ -60,6 +62,7 @@ pub fn search<R: Threads + Sync, P: Pricer>(
         let cost = kept.cost;
         let (one, two) = children(
             rt,
+            gate,
             alloc,
             case,
             limits,

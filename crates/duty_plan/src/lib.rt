@@ -43,7 +43,7 @@ pub use lines::line_of;
 pub use nodes::{Decision, Node, NodeState};
 pub use orders::serves;
 pub use outcomes::{Limits, Outcome, State};
-pub use planning::{Planner, Pricer};
+pub use planning::{Gate, Planner, Pricer, Straight};
 pub use plans::{Case, Plan};
 pub use positions::{Position, StepEffect};
 pub use pricing::{Priced, Prices};

@@ -1,4 +1,4 @@
-// Who prices the drivers of a case, and who plans a week.
+// Who prices the drivers of a case, and who plans a week; and the gate that their workers pass.
 ghost use Rattle.std.specs.Prelude.{◌≡◌, ℕ, ◌≤◌, IfOk};
 ghost use Rattle.duty_plan.specs.Duties.{IsCase};
 ghost use Rattle.duty_plan.specs.Values.{IsPairs, IsPrices};
@@ -10,6 +10,26 @@ use minute_line::{Many, Memory};
 use std::alloc::Global;
 use std::thread::Threads;
 
+/// What a worker of a round passes before it prices. It lets a test see that workers stand side by side.
+pub trait Gate {
+    /// Lets the worker of that number through.
+    fn pass(&self, worker: u32);
+}
+
+/// The gate that lets each worker through at once.
+#[derive(Clone, Copy, Debug)]
+pub struct Straight;
+
+impl Gate for Straight {
+    fn pass(&self, _worker: u32) {}
+}
+
+impl<G: Gate> Gate for &G {
+    fn pass(&self, worker: u32) {
+        (**self).pass(worker);
+    }
+}
+
 /// Prices the drivers of a case, each once in a round, at pairs and prices.
 pub trait Pricer {
     /// The number of its chunks of 1,024 labels, which no call changes. It licenses the answer Spent.
@@ -17,9 +37,10 @@ pub trait Pricer {
 
     /// One answer for each driver, the first driver's first: the least value with a lawful duty inside the pairs that has
     /// it, no duty where none is inside, or Spent where the chunks are fewer than the drivers or label lists fill them.
-    fn round<R: Threads + Sync>(
+    fn round<R: Threads + Sync, G: Gate + Sync>(
         &mut self,
         rt: &R,
+        gate: &G,
         alloc: Global,
         case: &Case,
         pairs: &Pairs,
@@ -35,9 +56,10 @@ pub trait Pricer {
 /// Plans the week of a case.
 pub trait Planner {
     /// A lawful plan at its cost, a bound that no lawful plan beats, and a tree within the limits that shows it.
-    fn solve<R: Threads + Sync>(
+    fn solve<R: Threads + Sync, G: Gate + Sync>(
         &mut self,
         rt: &R,
+        gate: &G,
         alloc: Global,
         case: &Case,
         limits: &Limits,

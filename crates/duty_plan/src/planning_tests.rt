@@ -8,8 +8,8 @@ ghost use Rattle.duty_plan.specs.Rounds.{next_price};
 
 use crate::tests::{drivers, no_legs, no_orders, places};
 use crate::{
-    Case, Decision, Duty, Limits, Node, NodeState, Outcome, Pair, Pairs, Plan, Planner, Priced,
-    Pricer, Prices, State,
+    Case, Decision, Duty, Gate, Limits, Node, NodeState, Outcome, Pair, Pairs, Plan, Planner,
+    Priced, Pricer, Prices, State, Straight,
 };
 use minute_line::{Many, Memory, Monday, fresh, read_monday};
 use std::alloc::Global;
@@ -41,9 +41,10 @@ fn home_answer(alloc: Global, case: &Case) -> Priced
 impl Pricer for Homebody {
     ghost chunks = { λ _. 0 };
 
-    fn round<R: Threads + Sync>(
+    fn round<R: Threads + Sync, G: Gate + Sync>(
         &mut self,
         _rt: &R,
+        _gate: &G,
         alloc: Global,
         case: &Case,
         _pairs: &Pairs,
@@ -79,9 +80,10 @@ fn home_plan(alloc: Global, drivers: &[Driver]) -> Result<Plan, Memory>
 }
 
 impl Planner for StayAtHome {
-    fn solve<R: Threads + Sync>(
+    fn solve<R: Threads + Sync, G: Gate + Sync>(
         &mut self,
         _rt: &R,
+        _gate: &G,
         alloc: Global,
         case: &Case,
         _limits: &Limits,
@@ -184,7 +186,7 @@ fn has_least<R: Threads + Sync, P: Pricer>(
     requires prices { IsPrices case.now.week prices.now }
     ensures least { IfOk result (λ yes. IsTrue yes → (value : ℤ) × IsLeastValue case.now 0 pairs.now prices.now value) }
 {
-    let answers = pricer.round(rt, alloc, case, pairs, prices)?;
+    let answers = pricer.round(rt, &Straight, alloc, case, pairs, prices)?;
     match answers.get(0) {
         Some(Priced::Least(_, _)) => Ok(true),
         _ => Ok(false),
@@ -221,7 +223,7 @@ fn planned<R: Threads + Sync, P: Planner>(
         nodes: 31,
         rounds: 8,
     };
-    let outcome = planner.solve(rt, alloc, case, &limits)?;
+    let outcome = planner.solve(rt, &Straight, alloc, case, &limits)?;
     Ok((outcome.cost, outcome.bound))
 }
 
