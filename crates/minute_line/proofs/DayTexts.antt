@@ -6,7 +6,7 @@ use Rattle.jiff_core.specs.Calendar.{IsCivilDate, days_from_civil}
 use Rattle.jiff_core.proofs.SignedLemmas.{signed_arith}
 use Rattle.jiff_core.proofs.CalendarLemmas.{day_count-lt_year, day_count-lt_month, days_from_civil-day_count}
 use Rattle.jiff_core.proofs.DateLemmas.{days_from_civil-day}
-use Rattle.minute_line.specs.DateText.{IsDateText, IsDigitAt, two_at, four_at, HasDateForm}
+use Rattle.minute_line.specs.DateText.{IsDateText, IsClockText, IsStampText, IsDigitAt, two_at, four_at, HasDateForm, text_day, clock_minutes, stamp_minutes}
 use Rattle.minute_line.specs.DateWriting.{IsDayText}
 
 not_earlier_year : (y m d y₂ m₂ d₂ : ℕ) → IsCivilDate (pos y) m d → IsCivilDate (pos y₂) m₂ d₂ → days_from_civil (pos y) m d ≡ days_from_civil (pos y₂) m₂ d₂ → y₂ ≤ y
@@ -48,28 +48,66 @@ abbrev SameFrom : List ℕ → List ℕ → ℕ → Type 0
 SameFrom s t j = drop j s ≡ drop j t
 
 -- the date of a text of a day
-parts : (day : ℤ) (s t : List ℕ) → IsDayText day s → IsDayText day t → (four_at s 0 ≡ four_at t 0) × (two_at s 5 ≡ two_at t 5) × (two_at s 8 ≡ two_at t 8)
+parts : (low high : ℕ) (s t : List ℕ) → IsDateText low high s → IsDateText low high t → text_day s ≡ text_day t → (four_at s 0 ≡ four_at t 0) × (two_at s 5 ≡ two_at t 5) × (two_at s 8 ≡ two_at t 8)
 unfolding IsDateText
-parts day s t a b = one_date (four_at s 0) (two_at s 5) (two_at s 8) (four_at t 0) (two_at t 5) (two_at t 8) a.1.2 b.1.2 (a.2 ∙ sym b.2)
+parts low high s t a b same = one_date (four_at s 0) (two_at s 5) (two_at s 8) (four_at t 0) (two_at t 5) (two_at t 8) a.2 b.2 same
 
 -- a year has four digits
 century : (s t : List ℕ) → HasDateForm s → HasDateForm t → four_at s 0 ≡ four_at t 0 → (two_at s 0 ≡ two_at t 0) × (two_at s 2 ≡ two_at t 2)
 century s t a b same = (omega (arith, a.0, b.0, same), omega (arith, a.0, b.0, same))
 
--- a day has one text
-pub one_text : (day : ℤ) (s t : List ℕ) → IsDayText day s → IsDayText day t → s ≡ t
+-- texts that begin with the date of one day are the same where they are the same after it
+date_bytes_same : (low high : ℕ) (s t : List ℕ) → IsDateText low high s → IsDateText low high t → 10 ≤ length s → 10 ≤ length t
+    → text_day s ≡ text_day t → SameFrom s t 10 → s ≡ t
 unfolding IsDateText
-one_text day s t a b =
-    let f = a.1.0 in
-    let g = b.1.0 in
-    let date = parts day s t a b in
+date_bytes_same low high s t a b long_s long_t same end =
+    let f = a.0 in
+    let g = b.0 in
+    let date = parts low high s t a b same in
     let year = century s t f g date.0 in
     let y01 = two_digits s t 0 f.0.0 f.0.1 g.0.0 g.0.1 year.0 in
     let y23 = two_digits s t 2 f.0.2 f.0.3 g.0.2 g.0.3 year.1 in
     let m = two_digits s t 5 f.2.0 f.2.1 g.2.0 g.2.1 date.1 in
     let d = two_digits s t 8 f.4.0 f.4.1 g.4.0 g.4.1 date.2 in
-    let at : (j : ℕ) → j < 10 → (j < length s) × (j < length t) = λ j lt. (omega (arith, a.0, lt), omega (arith, b.0, lt)) in
+    let at : (j : ℕ) → j < 10 → (j < length s) × (j < length t) = λ j lt. (omega (arith, long_s, lt), omega (arith, long_t, lt)) in
     let more : (j : ℕ) → j < 10 → slice_index s j ≡ slice_index t j → SameFrom s t (suc j) → SameFrom s t j = λ j lt same rest. one_more s t j (at j lt).0 (at j lt).1 same rest in
-    let end : SameFrom s t 10 = drop_of_length-le s {i = 10} (omega (arith, a.0)) ∙ sym (drop_of_length-le t {i = 10} (omega (arith, b.0))) in
     more 0 (omega arith) y01.0 (more 1 (omega arith) y01.1 (more 2 (omega arith) y23.0 (more 3 (omega arith) y23.1 (more 4 (omega arith) (f.1 ∙ sym g.1)
     (more 5 (omega arith) m.0 (more 6 (omega arith) m.1 (more 7 (omega arith) (f.3 ∙ sym g.3) (more 8 (omega arith) d.0 (more 9 (omega arith) d.1 end)))))))))
+
+-- texts of n bytes are the same from their end on
+same_end : (n : ℕ) (s t : List ℕ) → length s ≡ n → length t ≡ n → SameFrom s t n
+same_end n s t a b = drop_of_length-le s {i = n} (omega (arith, a)) ∙ sym (drop_of_length-le t {i = n} (omega (arith, b)))
+
+-- a day has one text
+pub one_text : (day : ℤ) (s t : List ℕ) → IsDayText day s → IsDayText day t → s ≡ t
+one_text day s t a b =
+    date_bytes_same 2000 2100 s t a.1 b.1 (omega (arith, a.0)) (omega (arith, b.0)) (a.2 ∙ sym b.2) (same_end 10 s t a.0 b.0)
+
+-- a time of day is less than a day
+in_day : (t : List ℕ) → IsClockText t → clock_minutes t < 1440
+unfolding IsClockText
+in_day t h = omega (arith, h.1.2, h.2.2)
+
+-- two stamps of one minute have one day and one time of day
+one_minute : (day : ℤ) (s t : List ℕ) → IsClockText s → IsClockText t → stamp_minutes day s ≡ stamp_minutes day t
+    → (text_day s ≡ text_day t) × (clock_minutes s ≡ clock_minutes t)
+one_minute day s t a b same =
+    (omega (arith, signed_arith, in_day s a, in_day t b, same), omega (arith, signed_arith, in_day s a, in_day t b, same))
+
+-- a minute has one stamp
+pub one_stamp : (day : ℤ) (s t : List ℕ) → IsStampText s → IsStampText t → stamp_minutes day s ≡ stamp_minutes day t → s ≡ t
+unfolding IsClockText
+one_stamp day s t a b same =
+    let f = a.2 in
+    let g = b.2 in
+    let one = one_minute day s t f g same in
+    let hour : two_at s 11 ≡ two_at t 11 = omega (arith, f.2.2, g.2.2, one.1) in
+    let minute : two_at s 14 ≡ two_at t 14 = omega (arith, f.2.2, g.2.2, one.1) in
+    let h = two_digits s t 11 f.1.0 f.1.1 g.1.0 g.1.1 hour in
+    let m = two_digits s t 14 f.2.0 f.2.1 g.2.0 g.2.1 minute in
+    let at : (j : ℕ) → j < 16 → (j < length s) × (j < length t) = λ j lt. (omega (arith, a.0, lt), omega (arith, b.0, lt)) in
+    let more : (j : ℕ) → j < 16 → slice_index s j ≡ slice_index t j → SameFrom s t (suc j) → SameFrom s t j = λ j lt same rest. one_more s t j (at j lt).0 (at j lt).1 same rest in
+    let clock : SameFrom s t 10 =
+    more 10 (omega arith) (f.0.0 ∙ sym g.0.0) (more 11 (omega arith) h.0 (more 12 (omega arith) h.1 (more 13 (omega arith) (f.0.1 ∙ sym g.0.1)
+    (more 14 (omega arith) m.0 (more 15 (omega arith) m.1 (same_end 16 s t a.0 b.0)))))) in
+    date_bytes_same 1999 2100 s t a.1 b.1 (omega (arith, a.0)) (omega (arith, b.0)) one.0 clock

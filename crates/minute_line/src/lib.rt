@@ -27,6 +27,8 @@ pub use many::{Bytes, Many, Memory, Name};
 pub use marks::{Kind, Mark, Stint};
 pub use reading::history_read;
 pub use spelling::{history_text, text_says_all};
-pub use stamps::{minute_in, monday_text, only_text, stamp, stamp_minute};
+pub use stamps::{
+    minute_in, monday_text, only_stamp, only_text, stamp, stamp_in, stamp_minute, week_days,
+};
 pub use valid::is_line_of;
 pub use writing::{push_decimal, push_number, push_word};

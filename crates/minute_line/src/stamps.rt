@@ -1,8 +1,8 @@
 // Stamps: a minute as a date and a time of day in UTC.
-ghost use Rattle.std.specs.Prelude.{ℤ, List, ℕ, ◌≡◌, ◌↔◌, ◌+◌, ◌*◌, ◌≤◌, ◌<◌, pos, ◌*ℤ◌, ◌+ℤ◌, ◌-ℤ◌, ◌≤ℤ◌, neg_ℤ, IsSome, IfSome, length};
+ghost use Rattle.std.specs.Prelude.{ℤ, List, ℕ, ◌≡◌, ◌↔◌, ◌+◌, ◌*◌, ◌≤◌, ◌<◌, ◌++◌, ◌/◌, pos, ◌*ℤ◌, ◌+ℤ◌, ◌-ℤ◌, ◌≤ℤ◌, neg_ℤ, IsSome, IfSome, length};
 ghost use Rattle.jiff_core.specs.Calendar.{IsBetween, IsEpochDay};
 ghost use Rattle.jiff_core.specs.Date.{epoch_day};
-ghost use Rattle.minute_line.specs.DateWriting.{IsDayText};
+ghost use Rattle.minute_line.specs.DateWriting.{IsDayText, AreDaysOf, clock_text, stamp_text};
 ghost use Rattle.minute_line.specs.DateText.{IsDigitAt, two_at, IsDateText, IsStampText, IsClockText, clock_minutes, stamp_minutes, text_day};
 
 use crate::dates::{Monday, date, two};
@@ -111,11 +111,19 @@ fn date_bytes(date: Date) -> [u8; 10]
     ]
 }
 
+/// The day with that number as `YYYY-MM-DD`.
+fn day_text(day: i32) -> [u8; 10]
+    requires { IsBetween (pos 10957) (pos 47492) day }
+    ensures { IsDayText day result }
+{
+    date_bytes(date_of(day))
+}
+
 /// The Monday as `YYYY-MM-DD`, which may be 2100-01-04 too.
 pub fn monday_text(monday: Monday) -> [u8; 10]
     ensures { IsDayText monday.day result }
 {
-    date_bytes(date_of(monday.day))
+    day_text(monday.day)
 }
 
 /// A law, which does nothing: a day has one text.
@@ -124,13 +132,10 @@ pub fn only_text()
         → IsDayText day first → IsDayText day second → first ≡ second }
 {}
 
-/// The stamp of a minute that lies at most a week after the Monday's midnight.
-pub fn stamp(monday: Monday, minute: u32) -> [u8; 16]
-    requires { minute ≤ 10080 }
-    ensures form { IsStampText result }
-    ensures minutes { stamp_minutes monday.day result ≡ pos minute }
+/// A date, and the time of day of a week minute.
+fn at_clock(date: &[u8; 10], minute: u32) -> [u8; 16]
+    ensures { result ≡ date.now ++ clock_text minute }
 {
-    let date = date_bytes(date_of(monday.day + (minute / 1440) as i32));
     let hour = ascii((minute / 60 % 24) as u8);
     let minutes = ascii((minute % 60) as u8);
     [
@@ -138,3 +143,53 @@ pub fn stamp(monday: Monday, minute: u32) -> [u8; 16]
         b'T', hour[0], hour[1], b':', minutes[0], minutes[1],
     ]
 }
+
+/// The number of the day of a minute that lies at most a week after the Monday's midnight.
+fn day_at(monday: Monday, minute: u32) -> i32
+    requires { minute ≤ 10080 }
+    ensures { result ≡ monday.day +ℤ pos (minute / 1440) }
+{
+    monday.day + (minute / 1440) as i32
+}
+
+/// The stamp of a minute that lies at most a week after the Monday's midnight.
+pub fn stamp(monday: Monday, minute: u32) -> [u8; 16]
+    requires { minute ≤ 10080 }
+    ensures form { IsStampText result }
+    ensures minutes { stamp_minutes monday.day result ≡ pos minute }
+{
+    at_clock(&day_text(day_at(monday, minute)), minute)
+}
+
+/// The days of a week as `YYYY-MM-DD`, Monday first.
+pub fn week_days(monday: Monday) -> [[u8; 10]; 7]
+    ensures { AreDaysOf monday.day result }
+{
+    let day = monday.day;
+    [
+        day_text(day),
+        day_text(day + 1),
+        day_text(day + 2),
+        day_text(day + 3),
+        day_text(day + 4),
+        day_text(day + 5),
+        day_text(day + 6),
+    ]
+}
+
+/// The stamp of a week minute, by the texts of the week's days.
+pub fn stamp_in(days: &[[u8; 10]; 7], minute: u32) -> [u8; 16]
+    requires { minute < 10080 }
+    ensures { result ≡ stamp_text days.now minute }
+{
+    at_clock(&days[(minute / 1440) as usize], minute)
+}
+
+/// Laws, which do nothing: by the days of a week, the stamp of a week minute is a stamp of just that minute; and a minute
+/// has one stamp.
+pub fn only_stamp()
+    ensures stamp { (day : ℤ) → (days : List (List ℕ)) → (minute : ℕ) → AreDaysOf day days → minute < 10080
+        → IsStampText (stamp_text days minute) × (stamp_minutes day (stamp_text days minute) ≡ pos minute) }
+    ensures only { (day : ℤ) → (first : List ℕ) → (second : List ℕ) → IsStampText first → IsStampText second
+        → stamp_minutes day first ≡ stamp_minutes day second → first ≡ second }
+{}

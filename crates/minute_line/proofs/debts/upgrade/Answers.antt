@@ -1,6 +1,6 @@
 use Rattle.std.proofs.Common.{rules, ◌≡◌, ◌∙◌, sym, ap, ℕ, ◌++◌}
-use Rattle.minute_line.specs.Histories.{Fields, fields_of}
-use Rattle.minute_line.specs.Debts.{with_rest_debt, with_own_debt, since_rest}
+use Rattle.minute_line.specs.Histories.{fields_of}
+use Rattle.minute_line.specs.Debts.{with_rest_debt, with_own_debt}
 use Rattle.minute_line.specs.Spelling.{older_spelling}
 use Rattle.minute_line.proofs.Held.{is_history-fields_of}
 use Rattle.minute_line.proofs.Older.{debtless, debtless_text, no_debt_text, older_is}

@@ -1,13 +1,14 @@
-use Rattle.std.proofs.Common.{refl, arith, ◌≤◌}
-use Rattle.minute_line.specs.DateText.{IsClockText, IsDateText, two_at}
+use Rattle.std.proofs.Common.{arith}
+use Rattle.jiff_core.proofs.SignedLemmas.{signed_arith}
+use Rattle.minute_line.proofs.StampTexts.{with_clock}
 use Rattle.minute_line.proofs.stamps.stamp.Goals as goal
 
 pub returns-clause-form : goal.returns-clause-form
-unfolding IsClockText IsDateText
 returns-clause-form c =
-    let h = c.ascii-hour.ensures in
-    let m = c.ascii-minutes.ensures in
-    let hours : two_at c.ascii-hour.result 0 ≤ 23 = omega (arith, h.value) in
-    let minutes : two_at c.ascii-minutes.result 0 ≤ 59 = omega (arith, m.value) in
-    let date = c.date_bytes-date.ensures.form in
-    (refl, (date.0, (omega (arith, date.1.0), date.1.1), date.2), ((refl, refl), (h.first, h.second, hours), (m.first, m.second, minutes)))
+    let day = c.day_text.ensures in
+    rw c.at_clock.ensures (with_clock c.args.monday.day c.day_text.result c.args.minute (day.0, day.1, omega (arith, signed_arith, day.2, c.day_at.ensures))).0
+
+pub returns-clause-minutes : goal.returns-clause-minutes
+returns-clause-minutes c =
+    let day = c.day_text.ensures in
+    rw c.at_clock.ensures (with_clock c.args.monday.day c.day_text.result c.args.minute (day.0, day.1, omega (arith, signed_arith, day.2, c.day_at.ensures))).1
