@@ -1,9 +1,10 @@
 -- What a history says.
-use Rattle.std.specs.Prelude.{ℕ, Bool, ◌&&◌, ◌||◌, nat_le, nat_eq, List, [], length, replicate, false}
+use Rattle.std.specs.Prelude.{ℕ, ◌-◌, Bool, ◌&&◌, ◌||◌, nat_le, nat_eq, List, [], length, replicate, false}
 use Rattle.minute_line.specs.Minutes.{total_of}
 use Rattle.minute_line.specs.Stints.{is_past, all_up_to}
 use Rattle.minute_line.specs.declared.marks.Stint.{Stint}
-use Rattle.minute_line.specs.declared.lines.TheConstants.{WEEK_MINUTES}
+use Rattle.minute_line.specs.declared.debts.TheConstants.{REGULAR_WEEKLY_REST, WEEKLY_REST}
+use Rattle.minute_line.specs.declared.lines.TheConstants.{PAST_LIMIT, WEEK_MINUTES}
 use Rattle.minute_line.specs.declared.lines.History.{History}
 
 -- a history without where its stints lie in memory
@@ -30,11 +31,11 @@ fields_of h = record {
 
 -- a driver who was at rest for 45 hours before Monday, and did nothing before
 abbrev pub fresh_fields : Fields
-fresh_fields = record { prev_weekly = 2700; stints = []; open_off = 2700; prev_drive = 0; work16 = replicate 16 0; owed = 0; due = 0 }
+fresh_fields = record { prev_weekly = REGULAR_WEEKLY_REST; stints = []; open_off = REGULAR_WEEKLY_REST; prev_drive = 0; work16 = replicate 16 0; owed = 0; due = 0 }
 
 -- the minutes of the last weekly rest and of the open off run are in range
 abbrev pub has_rests : Fields → Bool
-has_rests f = (nat_le 1440 f.prev_weekly && nat_le f.prev_weekly 1000000) && nat_le f.open_off 20160
+has_rests f = (nat_le WEEKLY_REST f.prev_weekly && nat_le f.prev_weekly 1000000) && nat_le f.open_off PAST_LIMIT
 
 -- the sums of last week and of the sixteen weeks before are in range
 abbrev pub has_sums : Fields → Bool
@@ -42,11 +43,11 @@ has_sums f = nat_le f.prev_drive WEEK_MINUTES && (nat_eq (length f.work16) 16 &&
 
 -- the stints are those of a history, and not too many minutes
 abbrev pub has_stints : Fields → Bool
-has_stints f = is_past false f.stints && nat_le (total_of f.stints) 20160
+has_stints f = is_past false f.stints && nat_le (total_of f.stints) PAST_LIMIT
 
 -- the debt is one that a weekly rest can leave, and without a debt nothing is due
 abbrev pub has_debt : Fields → Bool
-has_debt f = nat_le f.owed 1260 && (nat_le f.due 3 && (nat_le 1 f.owed || nat_eq f.due 0))
+has_debt f = nat_le f.owed (REGULAR_WEEKLY_REST - WEEKLY_REST) && (nat_le f.due 3 && (nat_le 1 f.owed || nat_eq f.due 0))
 
 -- the fields are those of a history: a history has no others, and for such fields there is one
 abbrev pub is_history : Fields → Bool

@@ -1,8 +1,9 @@
 // The rest that a driver owes for a reduced weekly rest (Art. 8(6)), and texts from before it was kept.
-ghost use Rattle.std.specs.Prelude.{◌≡◌, ◌≤◌, IfOk};
+ghost use Rattle.std.specs.Prelude.{◌≡◌, ◌≤◌, ◌-◌, IfOk};
 ghost use Rattle.minute_line.specs.Histories.{fields_of};
 ghost use Rattle.minute_line.specs.Debts.{weeks_left, with_debt, with_rest_debt, with_own_debt, since_rest};
 ghost use Rattle.minute_line.specs.Spelling.{older_spelling, GivesBack};
+ghost use Rattle.minute_line.specs.declared.debts.TheConstants.{REGULAR_WEEKLY_REST, WEEKLY_REST};
 ghost use Rattle.minute_line.specs.declared.lines.History.{History as AHistory};
 
 use crate::errors::TextError;
@@ -12,7 +13,9 @@ use crate::marks::Stint;
 use crate::reading::history_read;
 use std::alloc::Global;
 
-/// The least minutes of a weekly rest that is not reduced (Art. 4: 45 hours).
+/// The least minutes of a weekly rest, a reduced one (Regulation 561/2006, Art. 4(h): 24 hours).
+pub const WEEKLY_REST: u32 = 1_440;
+/// The least minutes of a weekly rest that is not reduced (Art. 4(h): 45 hours).
 pub const REGULAR_WEEKLY_REST: u32 = 2_700;
 
 /// The weeks from Monday to the end of the third week after that of the last minute of a rest, which ended so many
@@ -27,7 +30,7 @@ fn weeks_left_after(ago: u64) -> u32
 impl History {
     /// The history with so many minutes owed, due in so many weeks, in place of its own debt.
     pub fn with_debt(self, owed: u32, due: u32) -> History
-        requires owed { owed ≤ 1260 }
+        requires owed { owed ≤ REGULAR_WEEKLY_REST - WEEKLY_REST }
         requires due { due ≤ 3 }
         requires none { owed ≡ 0 → due ≡ 0 }
         ensures { fields_of result ≡ with_debt owed due (fields_of self) }
@@ -47,7 +50,7 @@ impl History {
     /// The history with the debt that a weekly rest of `rest` minutes leaves, which ended `ago` minutes before Monday
     /// 00:00, in place of its own.
     pub fn with_rest_debt(self, rest: u32, ago: u64) -> History
-        requires { 1440 ≤ rest }
+        requires { WEEKLY_REST ≤ rest }
         ensures { fields_of result ≡ with_rest_debt rest ago (fields_of self) }
     {
         let owed = REGULAR_WEEKLY_REST.saturating_sub(rest);

@@ -2,6 +2,7 @@
 ghost use Rattle.std.specs.Prelude.{◌≡◌, IfOk};
 ghost use Rattle.minute_line.specs.Histories.{fields_of, fresh_fields};
 
+use crate::debts::REGULAR_WEEKLY_REST;
 use crate::lines::{History, Line};
 use crate::many::{Many, Memory};
 use std::alloc::Global;
@@ -12,11 +13,11 @@ pub fn fresh(alloc: Global) -> History
     ensures { fields_of result ≡ fresh_fields }
 {
     History {
-        prev_weekly: 2700,
+        prev_weekly: REGULAR_WEEKLY_REST,
         stints: Line {
             stints: Many::new(alloc),
         },
-        open_off: 2700,
+        open_off: REGULAR_WEEKLY_REST,
         prev_drive: 0,
         work16: [0; 16],
         owed: 0,

@@ -19,10 +19,10 @@ mod valid;
 mod writing;
 
 pub use dates::{Monday, monday_in, read_monday};
-pub use debts::{REGULAR_WEEKLY_REST, upgrade};
+pub use debts::{REGULAR_WEEKLY_REST, WEEKLY_REST, upgrade};
 pub use errors::TextError;
 pub use histories::{copy_history, fresh};
-pub use lines::{History, Line, WEEK_MINUTES};
+pub use lines::{History, Line, PAST_LIMIT, WEEK_MINUTES};
 pub use many::{Bytes, Many, Memory, Name};
 pub use marks::{Kind, Mark, Stint};
 pub use reading::history_read;

@@ -1,6 +1,7 @@
 // The stints of a week, and what a driver brings into it.
-ghost use Rattle.std.specs.Prelude.{◌≡◌, ◌≤◌, true, false, length};
-ghost use Rattle.minute_line.specs.declared.lines.TheConstants.{WEEK_MINUTES};
+ghost use Rattle.std.specs.Prelude.{◌≡◌, ◌≤◌, ◌-◌, true, false, length};
+ghost use Rattle.minute_line.specs.declared.debts.TheConstants.{REGULAR_WEEKLY_REST, WEEKLY_REST};
+ghost use Rattle.minute_line.specs.declared.lines.TheConstants.{PAST_LIMIT, WEEK_MINUTES};
 ghost use Rattle.minute_line.specs.Minutes.{total_of};
 ghost use Rattle.minute_line.specs.Stints.{is_line, is_past, all_up_to};
 
@@ -9,6 +10,8 @@ use crate::marks::Stint;
 
 /// The minutes of a week.
 pub const WEEK_MINUTES: u32 = 10_080;
+/// The most minutes of the stints of a history, and of its open off run: two weeks.
+pub const PAST_LIMIT: u32 = 20_160;
 
 /// The stints of a driver's week, one after another from Monday 00:00; what is missing at its end is Off.
 ///
@@ -37,14 +40,14 @@ pub struct History {
     pub owed: u32,
     /// The end of the week by which they are due, in weeks from Monday, at most 3, and 0 where none are owed.
     pub due: u32,
-    pub ghost rest: { (1440 ≤ prev_weekly) × (prev_weekly ≤ 1000000) },
+    pub ghost rest: { (WEEKLY_REST ≤ prev_weekly) × (prev_weekly ≤ 1000000) },
     pub ghost shape: { is_past false stints.stints ≡ true },
-    pub ghost total: { total_of stints.stints ≤ 20160 },
-    pub ghost run: { open_off ≤ 20160 },
+    pub ghost total: { total_of stints.stints ≤ PAST_LIMIT },
+    pub ghost run: { open_off ≤ PAST_LIMIT },
     pub ghost drive: { prev_drive ≤ WEEK_MINUTES },
     pub ghost sixteen: { length work16 ≡ 16 },
     pub ghost weeks: { all_up_to WEEK_MINUTES work16 ≡ true },
-    pub ghost debt: { owed ≤ 1260 },
+    pub ghost debt: { owed ≤ REGULAR_WEEKLY_REST - WEEKLY_REST },
     pub ghost deadline: { due ≤ 3 },
     pub ghost no_debt: { owed ≡ 0 → due ≡ 0 },
 }

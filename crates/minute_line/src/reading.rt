@@ -5,8 +5,9 @@ ghost use Rattle.minute_line.specs.Spelling.{spelling, GivesBack};
 ghost use Rattle.minute_line.specs.Tokens.{candidate_of, tokens_of, parts_of};
 ghost use Rattle.minute_line.specs.declared.lines.History.{History as AHistory};
 
+use crate::debts::{REGULAR_WEEKLY_REST, WEEKLY_REST};
 use crate::errors::TextError;
-use crate::lines::{History, Line, WEEK_MINUTES};
+use crate::lines::{History, Line, PAST_LIMIT, WEEK_MINUTES};
 use crate::many::{Many, Memory};
 use crate::marks::Stint;
 use crate::spelling::history_text;
@@ -31,9 +32,10 @@ impl Candidate {
     fn is_history(&self) -> bool
         ensures { result ≡ is_history (parts_of self.now) }
     {
-        let rests = (1440 <= self.prev_weekly && self.prev_weekly <= 1_000_000)
-            && self.open_off <= 20160;
-        let debt = self.owed <= 1260 && (self.due <= 3 && (self.owed >= 1 || self.due == 0));
+        let rests = (WEEKLY_REST <= self.prev_weekly && self.prev_weekly <= 1_000_000)
+            && self.open_off <= PAST_LIMIT;
+        let debt = self.owed <= REGULAR_WEEKLY_REST - WEEKLY_REST
+            && (self.due <= 3 && (self.owed >= 1 || self.due == 0));
         let sums = self.prev_drive <= WEEK_MINUTES && are_up_to(WEEK_MINUTES, &self.work16);
         let stints = is_past_of(self.stints.as_slice()) && are_few(self.stints.as_slice());
         (rests && debt) && (sums && stints)

@@ -3,6 +3,7 @@ ghost use Rattle.std.specs.Prelude.{ℤ, List, ℕ, ◌≡◌, ◌↔◌, ◌+�
 ghost use Rattle.jiff_core.specs.Calendar.{IsBetween, IsEpochDay};
 ghost use Rattle.jiff_core.specs.Date.{epoch_day};
 ghost use Rattle.minute_line.specs.DateWriting.{IsDayText, AreDaysOf, clock_text, stamp_text};
+ghost use Rattle.minute_line.specs.declared.lines.TheConstants.{WEEK_MINUTES};
 ghost use Rattle.minute_line.specs.DateText.{IsDigitAt, two_at, IsDateText, IsStampText, IsClockText, clock_minutes, stamp_minutes, text_day};
 
 use crate::dates::{Monday, date, two};
@@ -146,7 +147,7 @@ fn at_clock(date: &[u8; 10], minute: u32) -> [u8; 16]
 
 /// The number of the day of a minute that lies at most a week after the Monday's midnight.
 fn day_at(monday: Monday, minute: u32) -> i32
-    requires { minute ≤ 10080 }
+    requires { minute ≤ WEEK_MINUTES }
     ensures { result ≡ monday.day +ℤ pos (minute / 1440) }
 {
     monday.day + (minute / 1440) as i32
@@ -154,7 +155,7 @@ fn day_at(monday: Monday, minute: u32) -> i32
 
 /// The stamp of a minute that lies at most a week after the Monday's midnight.
 pub fn stamp(monday: Monday, minute: u32) -> [u8; 16]
-    requires { minute ≤ 10080 }
+    requires { minute ≤ WEEK_MINUTES }
     ensures form { IsStampText result }
     ensures minutes { stamp_minutes monday.day result ≡ pos minute }
 {
@@ -179,7 +180,7 @@ pub fn week_days(monday: Monday) -> [[u8; 10]; 7]
 
 /// The stamp of a week minute, by the texts of the week's days.
 pub fn stamp_in(days: &[[u8; 10]; 7], minute: u32) -> [u8; 16]
-    requires { minute < 10080 }
+    requires { minute < WEEK_MINUTES }
     ensures { result ≡ stamp_text days.now minute }
 {
     at_clock(&days[(minute / 1440) as usize], minute)
@@ -188,7 +189,7 @@ pub fn stamp_in(days: &[[u8; 10]; 7], minute: u32) -> [u8; 16]
 /// Laws, which do nothing: by the days of a week, the stamp of a week minute is a stamp of just that minute; and a minute
 /// has one stamp.
 pub fn only_stamp()
-    ensures stamp { (day : ℤ) → (days : List (List ℕ)) → (minute : ℕ) → AreDaysOf day days → minute < 10080
+    ensures stamp { (day : ℤ) → (days : List (List ℕ)) → (minute : ℕ) → AreDaysOf day days → minute < WEEK_MINUTES
         → IsStampText (stamp_text days minute) × (stamp_minutes day (stamp_text days minute) ≡ pos minute) }
     ensures only { (day : ℤ) → (first : List ℕ) → (second : List ℕ) → IsStampText first → IsStampText second
         → stamp_minutes day first ≡ stamp_minutes day second → first ≡ second }

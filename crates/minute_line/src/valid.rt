@@ -1,9 +1,11 @@
 // Whether stints and numbers are those of a line or of a history.
 ghost use Rattle.std.specs.Prelude.{◌≡◌, ◌&&◌, not, true, false, nat_le};
+ghost use Rattle.minute_line.specs.declared.lines.TheConstants.{PAST_LIMIT};
 ghost use Rattle.minute_line.specs.Marks.{is_weekly};
 ghost use Rattle.minute_line.specs.Minutes.{total_of};
 ghost use Rattle.minute_line.specs.Stints.{may_follow, each_follows, only_declares, is_line, is_past, all_up_to};
 
+use crate::lines::PAST_LIMIT;
 use crate::marks::Stint;
 
 /// Whether the stint may come after an Off stint, or after another one.
@@ -71,9 +73,9 @@ pub(crate) fn is_past_of(stints: &[Stint]) -> bool
 
 /// Whether the stints have at most 20,160 minutes.
 pub(crate) fn are_few(stints: &[Stint]) -> bool
-    ensures { result ≡ nat_le (total_of stints.now) 20160 }
+    ensures { result ≡ nat_le (total_of stints.now) PAST_LIMIT }
 {
-    let mut left = 20160;
+    let mut left = PAST_LIMIT;
     for stint in stints {
         if stint.minutes > left {
             return false;
