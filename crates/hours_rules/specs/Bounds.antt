@@ -1,5 +1,8 @@
 -- How large the numbers of a clock may be. The contracts of the private functions cite this.
-use Rattle.std.specs.Prelude.{ℕ, ◌+◌, ◌≤◌, pos, ◌+ℤ◌, ◌≤ℤ◌}
+use Rattle.std.specs.Prelude.{ℕ, ◌+◌, ◌*◌, ◌≤◌, pos, ◌+ℤ◌, ◌≤ℤ◌}
+use Rattle.minute_line.specs.declared.lines.TheConstants.{WEEK_MINUTES}
+use Rattle.minute_line.specs.declared.debts.TheConstants.{REGULAR_WEEKLY_REST}
+use Rattle.hours_rules.specs.declared.thresholds.TheConstants.{LONG_PAUSES}
 use Rattle.hours_rules.specs.declared.clocks.Clock.{Clock}
 
 -- each number is one that a line of at most n minutes can have
@@ -16,11 +19,11 @@ pub record IsWithin (n : ℕ) (c : Clock) : Type 0 where
   pub reduced : c.reduced ≤ n
   pub work_run : c.work_run ≤ n
   pub work_day : c.work_day ≤ n
-  pub pause_day : c.pause_day ≤ 45
+  pub pause_day : c.pause_day ≤ LONG_PAUSES
   pub drive_week : c.drive_week ≤ n
   pub work_week : c.work_week ≤ n
   pub prev_drive : c.prev_drive ≤ 200000
   pub work_before : c.work_before ≤ 200000
-  pub owed : c.owed ≤ 2700
-  pub due : c.due ≤ℤ pos (n + 50400)
+  pub owed : c.owed ≤ REGULAR_WEEKLY_REST
+  pub due : c.due ≤ℤ pos (n + 5 * WEEK_MINUTES)
   pub due_low : pos 0 ≤ℤ (c.due +ℤ pos n)

@@ -4,6 +4,7 @@ use Rattle.minute_line.specs.declared.marks.Mark.TheVariants.{Off}
 use Rattle.minute_line.specs.declared.marks.Kind.TheVariants.{Plain}
 use Rattle.minute_line.specs.Marks.{is_duty}
 use Rattle.minute_line.specs.Minutes.{Minute, Minutes, stretch}
+use Rattle.hours_rules.specs.declared.thresholds.TheConstants.{FIRST_PART, FULL_BREAK, SECOND_PART}
 use Rattle.hours_rules.specs.declared.rules.Rule.{Rule}
 use Rattle.hours_rules.specs.declared.rules.Broken.{Broken}
 use Rattle.hours_rules.specs.Counts.{open_run, has_run, ends_rest, since, period_of}
@@ -15,7 +16,7 @@ BeginsPeriod m before = period_of (m ∷ before) ≡ m ∷ []
 
 -- an off run of 45 minutes or more always ends the driving period (Art. 7)
 abbrev pub FortyFiveEnds : Type 0
-FortyFiveEnds = (m : Minute) (before : Minutes) → is_duty m.mark ≡ true → 45 ≤ open_run before → BeginsPeriod m before
+FortyFiveEnds = (m : Minute) (before : Minutes) → is_duty m.mark ≡ true → FULL_BREAK ≤ open_run before → BeginsPeriod m before
 
 -- each minute of a list is on duty, and there is one
 abbrev pub AllOnDuty : Minutes → Type 0
@@ -30,15 +31,15 @@ two_runs first between second before = stretch second Off Plain (between ++ stre
 -- a run of 15 to 44 minutes that is no full break itself, and then one of at least 30, end the driving period (Art. 7)
 abbrev pub FifteenThenThirtyEnds : Type 0
 FifteenThenThirtyEnds = (before between : Minutes) (first second : ℕ) (m : Minute) → open_run before ≡ 0 →
-    15 ≤ first → first < 45 → (30 ≤ first → has_run 15 (period_of before) ≡ false) → AllOnDuty between → 30 ≤ second →
+    FIRST_PART ≤ first → first < FULL_BREAK → (SECOND_PART ≤ first → has_run FIRST_PART (period_of before) ≡ false) → AllOnDuty between → SECOND_PART ≤ second →
     is_duty m.mark ≡ true → BeginsPeriod m (two_runs first between second before)
 
 -- a run of 30 to 44 minutes and then one of 15 to 29 don't, in a period with no part of 15 before them: all of its
 -- minutes go on to count
 abbrev pub ThirtyThenFifteenGoesOn : Type 0
 ThirtyThenFifteenGoesOn = (before between : Minutes) (first second : ℕ) (m : Minute) → open_run before ≡ 0 →
-    has_run 15 (period_of before) ≡ false →
-    30 ≤ first → first < 45 → AllOnDuty between → 15 ≤ second → second < 30 →
+    has_run FIRST_PART (period_of before) ≡ false →
+    SECOND_PART ≤ first → first < FULL_BREAK → AllOnDuty between → FIRST_PART ≤ second → second < SECOND_PART →
     period_of (m ∷ two_runs first between second before) ≡ m ∷ two_runs first between second (period_of before)
 
 -- each rule holds at each minute of the week so far from minute `from` on

@@ -3,8 +3,8 @@ use Rattle.std.specs.Prelude.{ℕ, ◌+◌, Bool, not, ◌&&◌, ◌||◌, nat_e
 use Rattle.minute_line.specs.declared.marks.Kind.{Kind}
 use Rattle.minute_line.specs.declared.marks.Kind.TheVariants.{Plain, Daily, Weekly}
 use Rattle.minute_line.specs.Minutes.{Minute, Minutes}
-use Rattle.minute_line.specs.declared.debts.TheConstants.{REGULAR_WEEKLY_REST}
-use Rattle.hours_rules.specs.declared.thresholds.TheConstants.{PERIOD_DRIVE, DAY_DRIVE, LONG_DAY_DRIVE, LONG_DAYS, DAY_LENGTH, DAILY_REST, REGULAR_DAILY_REST, WEEKLY_REST, REDUCED_RESTS, WEEKLY_SPAN, WEEK_DRIVE, FORTNIGHT_DRIVE, WEEK_WORK, SEVENTEEN_WEEKS_WORK, PAUSE, UNPAUSED_WORK, SHORT_PAUSES, BRIEFLY_PAUSED_WORK, LONG_PAUSES}
+use Rattle.minute_line.specs.declared.debts.TheConstants.{REGULAR_WEEKLY_REST, WEEKLY_REST}
+use Rattle.hours_rules.specs.declared.thresholds.TheConstants.{PERIOD_DRIVE, DAY_DRIVE, LONG_DAY_DRIVE, LONG_DAYS, DAY_LENGTH, DAILY_REST, REGULAR_DAILY_REST, REDUCED_RESTS, WEEKLY_SPAN, WEEK_DRIVE, FORTNIGHT_DRIVE, WEEK_WORK, SEVENTEEN_WEEKS_WORK, PAUSE, UNPAUSED_WORK, SHORT_PAUSES, BRIEFLY_PAUSED_WORK, LONG_PAUSES}
 use Rattle.hours_rules.specs.declared.rules.Rule.{Rule}
 use Rattle.hours_rules.specs.declared.rules.Rule.TheVariants.{H1, H2, H3, H4, H5, H6, H7, H8, H9, H10, H11, H12}
 use Rattle.hours_rules.specs.declared.rules.Broken.{Broken}

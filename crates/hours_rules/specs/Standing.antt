@@ -1,5 +1,7 @@
 -- What the fields of a clock are the numbers of.
-use Rattle.std.specs.Prelude.{◌≡◌, ◌≤◌, length, pos, ◌-ℤ◌, ◌≤ℤ◌, min}
+use Rattle.std.specs.Prelude.{◌≡◌, ◌+◌, ◌-◌, ◌*◌, ◌≤◌, length, pos, ◌-ℤ◌, ◌≤ℤ◌, min}
+use Rattle.minute_line.specs.declared.lines.TheConstants.{PAST_LIMIT, WEEK_MINUTES}
+use Rattle.minute_line.specs.declared.debts.TheConstants.{REGULAR_WEEKLY_REST, WEEKLY_REST}
 use Rattle.minute_line.specs.Minutes.{Minutes}
 use Rattle.hours_rules.specs.declared.thresholds.TheConstants.{FIRST_PART, SPLIT_REST, PAUSE, LONG_PAUSES}
 use Rattle.hours_rules.specs.declared.clocks.Clock.{Clock}
@@ -33,17 +35,17 @@ pub record Stands (clock : Clock) (past : Past) (week : Minutes) : Type 0 where
 
 -- the debt is one that a history can bring along
 pub record IsCarried (debt : Debt) : Type 0 where
-  pub owed : debt.owed ≤ 1260
+  pub owed : debt.owed ≤ REGULAR_WEEKLY_REST - WEEKLY_REST
   pub not_before : pos 0 ≤ℤ debt.due
-  pub due : debt.due ≤ℤ pos 30240
+  pub due : debt.due ≤ℤ pos (3 * WEEK_MINUTES)
 
 -- the clock stands for some line, of a past and a week of the lengths that these may have
 pub record IsClock (clock : Clock) : Type 0 where
   pub past : Past
   pub week : Minutes
   pub stands : Stands clock past week
-  pub past_minutes : length past.minutes ≤ 40320
-  pub week_minutes : length week ≤ 10080
-  pub prev_drive : past.prev_drive ≤ 10080
-  pub work_before : past.work_before ≤ 161280
+  pub past_minutes : length past.minutes ≤ PAST_LIMIT + PAST_LIMIT
+  pub week_minutes : length week ≤ WEEK_MINUTES
+  pub prev_drive : past.prev_drive ≤ WEEK_MINUTES
+  pub work_before : past.work_before ≤ 16 * WEEK_MINUTES
   pub debt : IsCarried past.debt

@@ -1,6 +1,7 @@
 // When one clock is at least as good as another. The comparisons are joined with `&`, so that there is no branch: which of
 // them fails is hard to foretell, and a branch that is foretold wrongly costs more than all the comparisons.
 ghost use Rattle.std.specs.Prelude.{◌≡◌, ◌≤◌, ◌<◌, ◌≤ℤ◌, ◌↔◌, true};
+ghost use Rattle.minute_line.specs.declared.debts.TheConstants.{REGULAR_WEEKLY_REST};
 ghost use Rattle.hours_rules.specs.Order.{ClockDominates};
 
 use crate::Clock;
@@ -39,7 +40,7 @@ impl Clock {
         ensures { result ≡ true ↔ (self.now.half ≡ other.now.half)
             × (other.now.pause_day ≤ self.now.pause_day) × (other.now.split ≡ true → self.now.split ≡ true)
             × (self.now.long_days ≤ other.now.long_days) × (self.now.reduced ≤ other.now.reduced)
-            × (2700 ≤ other.now.prev_weekly → 2700 ≤ self.now.prev_weekly) }
+            × (REGULAR_WEEKLY_REST ≤ other.now.prev_weekly → REGULAR_WEEKLY_REST ≤ self.now.prev_weekly) }
     {
         (self.half == other.half)
             & (self.pause_day >= other.pause_day)

@@ -1,5 +1,6 @@
 // The clock after a stay and an act, or the first fault in their minutes.
 ghost use Rattle.std.specs.Prelude.{◌≡◌, ℕ, ◌+◌, ◌≤◌, ◌<◌, true, IfOk};
+ghost use Rattle.minute_line.specs.declared.lines.TheConstants.{WEEK_MINUTES};
 ghost use Rattle.minute_line.specs.Marks.{is_duty, is_working, is_rest};
 ghost use Rattle.hours_rules.specs.Standing.{IsClock};
 ghost use Rattle.hours_rules.specs.Bounds.{IsWithin};
@@ -46,7 +47,7 @@ pub fn go(clock: &Clock, stay: Stay, mark: Mark, minutes: u32) -> Result<Clock, 
     requires clock { IsClock clock.now }
     requires act { is_working mark ≡ true }
     requires some { 0 < minutes }
-    requires end { clock.now.at + stay.ready + stay.off + minutes ≤ 10080 }
+    requires end { clock.now.at + stay.ready + stay.off + minutes ≤ WEEK_MINUTES }
     requires ready { 0 < clock.now.off → stay.ready ≡ 0 }
     requires run { is_rest stay.kind ≡ true → 0 < clock.now.off + stay.off }
     ensures line { AnswersStay clock.now stay mark minutes result }

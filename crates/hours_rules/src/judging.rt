@@ -1,5 +1,6 @@
 // A week's line against the rules, and the clock of a history.
 ghost use Rattle.std.specs.Prelude.{◌≡◌, ℕ, ◌+◌, ◌≤◌, ◌<◌, ◌^◌, sum, length, true, false, []};
+ghost use Rattle.minute_line.specs.declared.lines.TheConstants.{PAST_LIMIT, WEEK_MINUTES};
 ghost use Rattle.minute_line.specs.Minutes.{Reached, add_stint, total_of};
 ghost use Rattle.hours_rules.specs.Rules.{Past, fault};
 ghost use Rattle.minute_line.specs.Marks.{is_duty};
@@ -27,7 +28,7 @@ fn declared_after(stint: &Stint) -> Kind
 /// The clock after a stint that isn't judged.
 fn pass(clock: &Clock, declared: Kind, stint: &Stint) -> Clock
     requires within { IsWithin 80000 clock.now }
-    requires few { stint.now.minutes ≤ 20160 }
+    requires few { stint.now.minutes ≤ PAST_LIMIT }
     ensures { StandsAfter clock.now declared stint.now result }
 {
     if stint.mark.is_off() {
@@ -115,7 +116,7 @@ pub fn start(history: &History) -> Clock
 ///
 /// The line has at most 10,080 minutes, and what is missing is Off. It takes no memory, and time grows with the stints.
 pub fn judge(history: &History, line: &Line) -> Verdict
-    requires { total_of line.now.stints ≤ 10080 }
+    requires { total_of line.now.stints ≤ WEEK_MINUTES }
     ensures { result ≡ verdict_of (fault (past_of history.now) (week_minutes line.now)) }
 {
     let mut clock = start(history);

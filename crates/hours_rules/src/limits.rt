@@ -2,15 +2,16 @@
 ghost use Rattle.std.specs.Prelude.{◌≡◌, ℕ, ◌+◌, ◌-◌, ◌^◌, ◌≤◌, ◌<◌, ◌≤ℤ◌, ◌+ℤ◌, pos, nat_lt, min, if◌then◌else◌};
 ghost use Rattle.hours_rules.specs.Machine.{room, short_here, debt_room, limit_if, left_until, least_room, fault_after, fault_within, IsDutyRoom, work_room, drive_room};
 ghost use Rattle.hours_rules.specs.Rules.{least_rest, all_rules};
+ghost use Rattle.hours_rules.specs.declared.thresholds.TheConstants.{BRIEFLY_PAUSED_WORK, DAY_DRIVE, DAY_LENGTH, LONG_DAY_DRIVE, LONG_DAYS, LONG_PAUSES, SEVENTEEN_WEEKS_WORK, SHORT_PAUSES, UNPAUSED_WORK, WEEK_WORK, WEEKLY_SPAN};
 ghost use Rattle.hours_rules.specs.Bounds.{IsWithin};
 
 use crate::thresholds::{
     BRIEFLY_PAUSED_WORK, DAILY_REST, DAY_DRIVE, DAY_LENGTH, FORTNIGHT_DRIVE, LONG_DAY_DRIVE,
     LONG_DAYS, LONG_PAUSES, PERIOD_DRIVE, REDUCED_RESTS, REGULAR_DAILY_REST, SEVENTEEN_WEEKS_WORK,
-    SHORT_PAUSES, UNPAUSED_WORK, WEEK_DRIVE, WEEK_WORK, WEEKLY_REST, WEEKLY_SPAN,
+    SHORT_PAUSES, UNPAUSED_WORK, WEEK_DRIVE, WEEK_WORK, WEEKLY_SPAN,
 };
 use crate::{Broken, Clock, Rule};
-use minute_line::{Kind, Mark, REGULAR_WEEKLY_REST};
+use minute_line::{Kind, Mark, REGULAR_WEEKLY_REST, WEEKLY_REST};
 
 /// More minutes than a line has.
 const UNLIMITED: u32 = 20000;
@@ -74,7 +75,7 @@ impl Clock {
     #[inline]
     fn day_left(&self) -> u32
         requires { IsWithin 100000 self.now }
-        ensures { result ≡ left_until 900 self.now.day_from self.now.at }
+        ensures { result ≡ left_until DAY_LENGTH self.now.day_from self.now.at }
     {
         left_until(DAY_LENGTH, self.day_from, self.at)
     }
@@ -83,7 +84,7 @@ impl Clock {
     #[inline]
     fn rest_left(&self) -> u32
         requires { IsWithin 100000 self.now }
-        ensures { result ≡ left_until 8640 self.now.rest_from self.now.at }
+        ensures { result ≡ left_until WEEKLY_SPAN self.now.rest_from self.now.at }
     {
         left_until(WEEKLY_SPAN, self.rest_from, self.at)
     }
@@ -91,7 +92,7 @@ impl Clock {
     /// How many Drive minutes are left of the work day: 540, or 600 on two days of the week.
     #[inline]
     fn drive_left(&self) -> u32
-        ensures { result ≡ (if nat_lt self.now.long_days 2 then 600 else 540) - self.now.drive_day }
+        ensures { result ≡ (if nat_lt self.now.long_days LONG_DAYS then LONG_DAY_DRIVE else DAY_DRIVE) - self.now.drive_day }
     {
         let limit = if self.long_days < LONG_DAYS {
             LONG_DAY_DRIVE
@@ -105,7 +106,7 @@ impl Clock {
     #[inline]
     fn work_left(&self) -> u32
         requires { IsWithin 100000 self.now }
-        ensures { result ≡ min (3600 - self.now.work_week) (48960 - (self.now.work_week + self.now.work_before)) }
+        ensures { result ≡ min (WEEK_WORK - self.now.work_week) (SEVENTEEN_WEEKS_WORK - (self.now.work_week + self.now.work_before)) }
     {
         let four_months = SEVENTEEN_WEEKS_WORK.saturating_sub(self.work_week + self.work_before);
         WEEK_WORK.saturating_sub(self.work_week).min(four_months)
@@ -114,7 +115,7 @@ impl Clock {
     /// How many working minutes are left until the work day wants more pauses than it has.
     #[inline]
     fn pause_left(&self) -> u32
-        ensures { result ≡ limit_if (nat_lt self.now.pause_day 45) ((if nat_lt self.now.pause_day 30 then 360 else 540) - self.now.work_day) }
+        ensures { result ≡ limit_if (nat_lt self.now.pause_day LONG_PAUSES) ((if nat_lt self.now.pause_day SHORT_PAUSES then UNPAUSED_WORK else BRIEFLY_PAUSED_WORK) - self.now.work_day) }
     {
         if self.pause_day >= LONG_PAUSES {
             return UNLIMITED;

@@ -1,5 +1,7 @@
 // How a clock moves on: a run ends, on-duty minutes go by, Off minutes go by.
 ghost use Rattle.std.specs.Prelude.{◌≡◌, ℕ, ◌≤◌, ◌<◌, ◌-◌, if◌then◌else◌, nat_le, ◌||◌, true, false, pos, ◌-ℤ◌};
+ghost use Rattle.minute_line.specs.declared.debts.TheConstants.{REGULAR_WEEKLY_REST};
+ghost use Rattle.hours_rules.specs.declared.thresholds.TheConstants.{FIRST_PART, SPLIT_REST};
 ghost use Rattle.hours_rules.specs.Debts.{third_week_end};
 ghost use Rattle.hours_rules.specs.Machine.{rest_here, weekly_here, break_here, long_here, reduced_here, paying_here, owing_here, run_ended, ticked, rested};
 ghost use Rattle.hours_rules.specs.Bounds.{IsWithin};
@@ -107,8 +109,8 @@ impl Clock {
     /// What is owed once it has ended.
     #[inline]
     fn owed_after(&self, paying: bool, owing: bool) -> u32
-        requires { owing ≡ true → self.now.off < 2700 }
-        ensures { result ≡ (if paying then 0 else (if owing then 2700 - self.now.off else self.now.owed)) }
+        requires { owing ≡ true → self.now.off < REGULAR_WEEKLY_REST }
+        ensures { result ≡ (if paying then 0 else (if owing then REGULAR_WEEKLY_REST - self.now.off else self.now.owed)) }
     {
         if paying {
             0
@@ -167,7 +169,7 @@ impl Clock {
     /// Whether the driving period has a first part of 15, unless a full break ends it.
     #[inline]
     fn keeps_part(&self, full: bool) -> bool
-        ensures { result ≡ (if full then false else (nat_le 15 self.now.off || self.now.half)) }
+        ensures { result ≡ (if full then false else (nat_le FIRST_PART self.now.off || self.now.half)) }
     {
         !full && (self.off >= FIRST_PART || self.half)
     }
@@ -175,7 +177,7 @@ impl Clock {
     /// Whether the work day has a run of 180, unless a rest ends it.
     #[inline]
     fn keeps_split(&self, rest: bool) -> bool
-        ensures { result ≡ (if rest then false else (nat_le 180 self.now.off || self.now.split)) }
+        ensures { result ≡ (if rest then false else (nat_le SPLIT_REST self.now.off || self.now.split)) }
     {
         !rest && (self.off >= SPLIT_REST || self.split)
     }

@@ -26,8 +26,6 @@ pub const DAY_BEFORE_REST: u32 = 780;
 pub const SPLIT_REST: u32 = 180;
 /// How many reduced daily rests may lie between two weekly rests (Art. 8(4)).
 pub const REDUCED_RESTS: u32 = 3;
-/// The shortest weekly rest, a reduced one, in minutes (Art. 4(h)).
-pub const WEEKLY_REST: u32 = 1_440;
 /// The most minutes from a weekly rest on (Art. 8(6)).
 pub const WEEKLY_SPAN: u32 = 8_640;
 /// The most Drive minutes of a week (Art. 6(2)).
