@@ -1,5 +1,6 @@
 // The verdicts on what was driven.
 ghost use Rattle.std.specs.Prelude.{◌≡◌, ◌≤◌, [], length, option_map, IfOk, OnOk};
+ghost use Rattle.minute_line.specs.declared.lines.TheConstants.{WEEK_MINUTES};
 ghost use Rattle.minute_line.specs.Writing.{with_words};
 ghost use Rattle.minute_line.specs.Histories.{fields_of};
 ghost use Rattle.minute_line.specs.Minutes.{total_of};
@@ -32,7 +33,7 @@ fn past_or_fresh(alloc: Global, past: Option<History>) -> History
 fn line_in(alloc: Global, rows: &Many<Row>, name: &Name) -> Result<Line, Stop>
     requires { HasPastRows rows.now }
     ensures line { Meets (λ line. line.stints) result (line_or_refusal rows.now name.now) }
-    ensures total { IfOk result (λ line. total_of line.stints ≤ 10080) }
+    ensures total { IfOk result (λ line. total_of line.stints ≤ WEEK_MINUTES) }
 {
     match read_line(alloc, rows, name) {
         Ok(line) => Ok(line),

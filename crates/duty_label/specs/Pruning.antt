@@ -1,6 +1,7 @@
 -- Which labels need not be stored: no lawful duty inside that begins with their steps is worth less than what is known.
 use Rattle.std.specs.Prelude.{◌≡◌, ◌⊎◌, ℕ, ◌+◌, ◌<◌, Bool, true, false, not, ◌&&◌, ◌==◌, if◌then◌else◌, ◌++◌, length, Option, Some, None, ℤ, pos, ◌+ℤ◌, ◌-ℤ◌, ◌≤ℤ◌, ◌<ℤ◌}
 use Rattle.std.specs.Int.{bit_at}
+use Rattle.minute_line.specs.declared.lines.TheConstants.{WEEK_MINUTES}
 use Rattle.week_book.specs.declared.weeks.Week.{Week}
 use Rattle.week_book.specs.Weeks.{order_of}
 use Rattle.duty_plan.specs.declared.plans.Case.{Case}
@@ -63,7 +64,7 @@ Knows (Some known) value = known ≤ℤ value
 -- what is known
 abbrev pub IsHopeless : Week → Walks → ℕ → Pairs → Prices → Label → Option ℤ → Type 0
 IsHopeless week walks driver pairs prices label known =
-    (10080 < label.clock.at + minutes_between walks label.place 0)
+    (WEEK_MINUTES < label.clock.at + minutes_between walks label.place 0)
     ⊎ (LacksForced week walks driver pairs label ⊎ Knows known (completion_value week walks driver pairs prices label))
 
 -- the steps, the newest first, make the partial duty a lawful duty inside the pairs

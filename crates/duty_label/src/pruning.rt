@@ -1,6 +1,7 @@
 // Which labels need not be stored, by what the walks from their places take at least.
 ghost use Rattle.std.specs.Prelude.{◌≡◌, ◌<◌, ◌≤◌, ◌↔◌, ◌+◌, ◌==◌, not, true, ◌≤ℤ◌, length};
 ghost use Rattle.std.specs.Int.{bit_at};
+ghost use Rattle.minute_line.specs.declared.lines.TheConstants.{WEEK_MINUTES};
 ghost use Rattle.week_book.specs.Weeks.{IsWeek};
 ghost use Rattle.duty_plan.specs.Duties.{IsCase};
 ghost use Rattle.duty_plan.specs.Sums.{total_below};
@@ -10,13 +11,11 @@ ghost use Rattle.duty_label.specs.Pruning.{IsHopeless, Knows, LacksForced, compl
 use crate::prices::price_of_act;
 use crate::walks::Walks;
 use duty_plan::{Act, Case, Label, Pair, Pairs, Prices};
+use minute_line::WEEK_MINUTES;
 use week_book::Week;
 
-/// The last minute of a week.
-const END: u64 = 10_080;
-
 /// Whether an order is one of some orders; order n is the bit n.
-fn has_order(orders: u128, order: u32) -> bool
+pub(crate) fn has_order(orders: u128, order: u32) -> bool
     requires { order < 128 }
     ensures { result ≡ not (bit_at orders order == 0) }
 {
@@ -41,10 +40,10 @@ impl Walks {
 
     /// Whether no walk leads home from where the label's steps end, or none that ends within the week.
     fn is_too_far(&self, label: &Label) -> bool
-        ensures { result ≡ true ↔ 10080 < label.now.clock.at + minutes_between self.now label.now.place 0 }
+        ensures { result ≡ true ↔ WEEK_MINUTES < label.now.clock.at + minutes_between self.now label.now.place 0 }
     {
-        let left = END.checked_sub(u64::from(label.clock.at));
-        !left.is_some_and(|left| self.minutes(label.place, 0) <= left)
+        let left = WEEK_MINUTES.checked_sub(label.clock.at);
+        !left.is_some_and(|left| self.minutes(label.place, 0) <= u64::from(left))
     }
 
     /// Whether an order that is Forced for the driver is lacking, and can't be reached any more.

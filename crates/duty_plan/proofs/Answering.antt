@@ -12,11 +12,11 @@ use Rattle.duty_plan.specs.declared.faults.DutyFault.{DutyFault}
 use Rattle.duty_plan.specs.declared.faults.PlanFault.{PlanFault}
 use Rattle.duty_plan.specs.declared.faults.PlanFault.TheVariants.{Duties, Duty as duty_fails}
 use Rattle.duty_plan.specs.PartialDuties.{PartialDuty}
-use Rattle.duty_plan.specs.Duties.{EachOf, IsCase, IsLawful, IsLawfulPlan, partial_of, open_off_at, capacity_at, fee_or_none, cost_after, cost_of_duties, cost_of_plan, times_placed}
+use Rattle.duty_plan.specs.Duties.{EachOf, IsCase, IsLawful, IsLawfulPlan, partial_of, open_off_at, capacity_at, fee_or_none, cost_after, cost_of_duties, cost_of_plan, duty_cost_limit, times_placed}
 use Rattle.duty_plan.specs.Verdicts.{duty_verdict, after_verdict, duties_fault, plan_answer, plan_verdict, first_twice, first_lost}
 use Rattle.duty_plan.specs.DutyChecks.{ServesOnce}
 use Rattle.duty_plan.proofs.Lists.{split-at, take-more}
-use Rattle.duty_plan.proofs.WeekLimits.{all-slice_get, cheap, early, few-steps}
+use Rattle.duty_plan.proofs.WeekLimits.{all-slice_get, cheap, early}
 use Rattle.duty_plan.proofs.Judging.{ok-lawful, lawful-ok}
 use Rattle.duty_plan.proofs.Least.{least-none, none-least}
 use Rattle.duty_plan.proofs.Carrying.{served-once}
@@ -66,21 +66,26 @@ cost-more case duties i cents cost duty d h k l g =
     omega (arith, more, cost_of_duties-append case 0 i (take i duties) (duty ∷ []) here)
 
 -- a lawful duty costs at most so much
-pub cost-small : (case : Case) (driver : ℕ) (duty : Duty) → IsCase case → IsLawful case driver duty → cost_after case driver (partial_of duty) ≤ 20170000000
+pub cost-small : (case : Case) (driver : ℕ) (duty : Duty) → IsCase case → IsLawful case driver duty → cost_after case driver (partial_of duty) ≤ duty_cost_limit
 cost-small case driver duty w l = by_partial (partial_of duty) refl
   where
     by_driver : (found : Option Driver) → driver_of case.week driver ≡ found → fee_or_none found ≤ 10000000
     by_driver None e = omega arith
     by_driver (Some lorry) e = (all-slice_get IsDriver case.week.drivers driver lorry w.week.drivers e).fee
 
-    by_partial : (partial : PartialDuty) → partial_of duty ≡ partial → cost_after case driver partial ≤ 20170000000
+    by_partial : (partial : PartialDuty) → partial_of duty ≡ partial → cost_after case driver partial ≤ duty_cost_limit
     by_partial [] e = omega arith
     by_partial (step ∷ before) e =
         let office = rw e at l.partial.office in
-        let few = few-steps case.week (open_off_at case driver) (capacity_at case driver) (step ∷ before) w.week office in
         let end = early case.week (open_off_at case driver) (capacity_at case driver) (step ∷ before) office in
         let sum = cheap case.week (open_off_at case driver) (capacity_at case driver) (step ∷ before) w.week office in
-        omega (arith, few, end, sum, by_driver (driver_of case.week driver) refl)
+        omega (arith, end, sum, by_driver (driver_of case.week driver) refl)
+
+-- so is what a judge answers, who tells lawful duties and their cost
+pub limit-answer : (case : Case) (driver : ℕ) (duty : Duty) (answer : Result ℕ DutyFault) → IsCase case → IsOk answer ↔ IsLawful case driver duty →
+    IfOk answer (λ cents. cents ≡ cost_after case driver (partial_of duty)) → IfOk answer (λ cents. cents ≤ duty_cost_limit)
+limit-answer case driver duty (Ok cents) w l e = omega (arith, e, cost-small case driver duty w (l.0 refl))
+limit-answer case driver duty (Err fault) w l e = tt
 
 -- ---- lawful duties
 

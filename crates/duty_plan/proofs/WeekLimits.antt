@@ -1,12 +1,14 @@
 -- How large the numbers of a partial duty that keeps the office rules get.
-use Rattle.std.proofs.Common.{◌≡◌, ℕ, zero, suc, ◌+◌, ◌*◌, ◌≤◌, ◌<◌, Bool, true, false, List, [], ◌∷◌, length, Option, Some, None, slice_get, find, All, refl, subst, sym, ◌∙◌, arith, is_some, cond}
+use Rattle.std.proofs.Common.{◌≡◌, ℕ, zero, suc, ◌+◌, ◌*◌, ◌≤◌, ◌<◌, Bool, true, false, List, [], ◌∷◌, length, Option, Some, None, slice_get, find, All, refl, subst, sym, ◌∙◌, arith, is_some, cond, not, ◌&&◌, ◌==◌}
 use Rattle.std.proofs.lemmas.Bool.{leb-true}
 use Rattle.std.proofs.lemmas.List.Elements.{All-head, All-tail}
 use Rattle.std.proofs.lemmas.Option.{slice_get_within}
 use Rattle.hours_rules.proofs.Faults.{length-stretch}
 use Rattle.minute_line.specs.declared.marks.Mark.{Mark}
 use Rattle.minute_line.specs.declared.marks.Mark.TheVariants.{Ready, Off}
-use Rattle.minute_line.specs.declared.marks.Kind.TheVariants.{Plain}
+use Rattle.minute_line.specs.declared.marks.Kind.{Kind}
+use Rattle.minute_line.specs.declared.marks.Kind.TheVariants.{Plain, Daily, Weekly}
+use Rattle.minute_line.specs.Marks.{is_daily}
 use Rattle.minute_line.specs.Minutes.{Minutes, stretch}
 use Rattle.hours_rules.specs.declared.clocks.Stay.{Stay}
 use Rattle.hours_rules.specs.Going.{with_stay}
@@ -19,7 +21,7 @@ use Rattle.duty_plan.specs.declared.duties.Act.{Act}
 use Rattle.duty_plan.specs.declared.duties.Act.TheVariants.{Leg, Serve, Load}
 use Rattle.duty_plan.specs.declared.duties.Step.{Step}
 use Rattle.duty_plan.specs.Acts.{mark_of, minutes_of, minutes_of_road, minutes_of_order, cents_of_act, cents_of_road, can_be_done, is_at, used_by}
-use Rattle.duty_plan.specs.PartialDuties.{PartialDuty, at_after, start_of, place_after, line_after, used_after, may_carry, loaded_after, KeepsOfficeThrough}
+use Rattle.duty_plan.specs.PartialDuties.{PartialDuty, at_after, start_of, place_after, line_after, used_after, may_carry, loaded_after, is_length, has_lawful_length, KeepsOfficeThrough}
 use Rattle.duty_plan.specs.Duties.{cents_after, night_of}
 use Rattle.duty_plan.specs.declared.duty_checks.DutyCheck.{DutyCheck}
 use Rattle.minute_line.specs.declared.lines.History.{History}
@@ -127,27 +129,34 @@ light week open_off capacity [] k = omega arith
 light week open_off capacity (step ∷ before) k =
     light-step week capacity (used_after week before) (loaded_after before) step.act (light week open_off capacity before k.1) k.0.load
 
-night-cheap : (b : Bool) (night : ℕ) → night ≤ 1000000 → cond b night 0 ≤ 1000000
-night-cheap true night h = h
-night-cheap false night h = omega arith
+-- away from the depot a stay has the lengths of its kind
+away-length : (open_off : ℕ) (step : Step) (before : PartialDuty) → has_lawful_length open_off step before ≡ true →
+    not (place_after before == 0) ≡ true → is_length step.stay.kind step.stay.off ≡ true
+away-length open_off step [] h a = cc
+away-length open_off step (last ∷ before) h a = h
 
--- each step costs at most so much
+-- a night has an Off minute
+night-cheap : (kind : Kind) (away : Bool) (night off : ℕ) → night ≤ 1000000 → (away ≡ true → is_length kind off ≡ true) →
+    cond (is_daily kind && away) night 0 ≤ 1000000 * off
+night-cheap Plain away night off h l = omega arith
+night-cheap Weekly away night off h l = omega arith
+night-cheap Daily false night off h l = omega arith
+night-cheap Daily true night off h l = let some : 1 ≤ off = leb-true 1 off (l refl) in omega arith
+
+-- each minute costs at most so much
 pub cheap : (week : Week) (open_off capacity : ℕ) (partial : PartialDuty) → IsWeek week → KeepsOfficeThrough week open_off capacity partial →
-    cents_after week partial ≤ 2000000 * length partial
+    cents_after week partial ≤ 1000000 * at_after week partial
 cheap week open_off capacity [] w k = omega arith
 cheap week open_off capacity (step ∷ before) w k =
-    let night : night_of week step before ≤ 1000000 = night-cheap _ week.night w.night in
-    omega (
-      arith,
-      night,
-      cheap week open_off capacity before w k.1,
-      (small-act week (place_after before) step.act w k.0.road).cheap,
-    )
+    let night : night_of week step before ≤ 1000000 * step.stay.off =
+    night-cheap step.stay.kind (not (place_after before == 0)) week.night step.stay.off w.night (away-length open_off step before k.0.stay) in
+    let act = small-act week (place_after before) step.act w k.0.road in
+    omega (arith, night, at-step week step before, cheap week open_off capacity before w k.1, act.cheap, act.some)
 
 -- the numbers of a walk are small
 pub record IsBounded (check : DutyCheck) : Type 0 where
   pub steps : check.steps ≤ 10080
-  pub cents : check.cents ≤ 20160000000
+  pub cents : check.cents ≤ 10080000000
 
 pub bounded : (week : Week) (driver : Driver) (history : History) (partial : PartialDuty) (check : DutyCheck) → IsWeek week → IsDriver driver →
     StandsFor week driver history partial check → IsBounded check
@@ -155,5 +164,5 @@ bounded week driver history partial check w d s =
     let few = few-steps week history.open_off driver.capacity partial w s.office in
     let end = early week history.open_off driver.capacity partial s.office in record {
       steps = omega (arith, s.steps, few, end);
-      cents = omega (arith, s.cents, cheap week history.open_off driver.capacity partial w s.office, few, end);
+      cents = omega (arith, s.cents, cheap week history.open_off driver.capacity partial w s.office, end);
     }

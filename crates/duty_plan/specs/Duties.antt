@@ -1,5 +1,6 @@
 -- Lawful duties and plans, and their cost.
-use Rattle.std.specs.Prelude.{◌≡◌, ℕ, ◌+◌, ◌<◌, not, ◌&&◌, ◌==◌, if◌then◌else◌, List, [], ◌∷◌, ◌++◌, length, reverse, Option, Some, None, slice_get}
+use Rattle.std.specs.Prelude.{◌≡◌, ℕ, ◌+◌, ◌*◌, ◌<◌, not, ◌&&◌, ◌==◌, if◌then◌else◌, List, [], ◌∷◌, ◌++◌, length, reverse, Option, Some, None, slice_get}
+use Rattle.minute_line.specs.declared.lines.TheConstants.{WEEK_MINUTES}
 use Rattle.minute_line.specs.declared.lines.History.{History}
 use Rattle.minute_line.specs.Marks.{is_daily}
 use Rattle.hours_rules.specs.Debts.{no_debt}
@@ -91,6 +92,10 @@ cost_after case driver [] = 0
 cost_after case driver (step ∷ before) =
     fee_or_none (driver_of case.week driver) + cents_after case.week (step ∷ before)
 
+-- no lawful duty costs more, in cents: a fee of 10,000,000, and in each minute of the week a leg or a night of 1,000,000
+abbrev pub duty_cost_limit : ℕ
+duty_cost_limit = 10000000 + 1000000 * WEEK_MINUTES
+
 -- the orders that a partial duty serves
 abbrev pub orders_of : PartialDuty → List ℕ
 orders_of [] = []
@@ -130,6 +135,10 @@ cost_of_duties case driver (duty ∷ rest) = cost_after case driver (partial_of 
 -- the cost of a plan in cents: its duties', and what subcontractors take
 abbrev pub cost_of_plan : Case → Plan → ℕ
 cost_of_plan case plan = cost_of_duties case 0 plan.duties + worth (price_of case.week) plan.out
+
+-- no lawful plan costs more, in cents: sixteen such duties, and what subcontractors take for 120 orders, 100,000,000 each
+abbrev pub plan_cost_limit : ℕ
+plan_cost_limit = 16 * duty_cost_limit + 120 * 100000000
 
 -- a valid case: a checked week, and one history for each driver
 pub record IsCase (case : Case) : Type 0 where

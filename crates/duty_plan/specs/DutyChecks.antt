@@ -14,7 +14,7 @@ use Rattle.duty_plan.specs.declared.faults.PlanFault.{PlanFault}
 use Rattle.duty_plan.specs.declared.faults.DutyFault.{DutyFault}
 use Rattle.duty_plan.specs.declared.duty_checks.DutyCheck.{DutyCheck}
 use Rattle.duty_plan.specs.PartialDuties.{PartialDuty, line_after, KeepsOfficeThrough}
-use Rattle.duty_plan.specs.Duties.{cents_after, cost_of_duties, partial_of, orders_of, times}
+use Rattle.duty_plan.specs.Duties.{cents_after, cost_of_duties, duty_cost_limit, partial_of, orders_of, times}
 use Rattle.duty_plan.specs.Verdicts.{first_failed, tests_of_step, duties_fault}
 use Rattle.duty_plan.specs.Positions.{IsPositionOf}
 
@@ -44,7 +44,7 @@ ServesOnce driver duty = (order : ℕ) → times order (orders_of (partial_of du
 -- the answer is the cost of some duties, the first driver's first, or the first fault of one that isn't lawful
 abbrev pub AnswersDuties : Case → List Duty → Result ℕ PlanFault → Type 0
 AnswersDuties case duties answer =
-    MatchResult answer (λ cents. (duties_fault case 0 duties ≡ None) × (cents ≡ cost_of_duties case 0 duties) × (cents ≤ length duties * 20170000000))
+    MatchResult answer (λ cents. (duties_fault case 0 duties ≡ None) × (cents ≡ cost_of_duties case 0 duties) × (cents ≤ length duties * duty_cost_limit))
     (λ fault. duties_fault case 0 duties ≡ Some fault)
 
 -- the fault of the hours rules, where there is one

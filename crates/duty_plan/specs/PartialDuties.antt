@@ -1,6 +1,8 @@
 -- What a list of steps comes to, and the office rules at a step: the grid (keeps_grid), weekly rest at home (rests_home),
 -- stay lengths (has_lawful_length), road and times (follows_road, ends_in_week), windows and loads (is_in_window, keeps_capacity, serves_anew).
 use Rattle.std.specs.Prelude.{◌≡◌, ℕ, ◌+◌, ◌%◌, Bool, true, false, not, ◌&&◌, ◌||◌, ◌==◌, nat_le, nat_lt, List, [], ◌∷◌, length}
+use Rattle.minute_line.specs.declared.lines.TheConstants.{WEEK_MINUTES}
+use Rattle.hours_rules.specs.declared.thresholds.TheConstants.{FIRST_PART, FULL_BREAK, SECOND_PART, SPLIT_REST}
 use Rattle.minute_line.specs.declared.marks.Kind.{Kind}
 use Rattle.minute_line.specs.declared.marks.Kind.TheVariants.{Plain, Daily, Weekly}
 use Rattle.minute_line.specs.Marks.{is_rest, is_weekly}
@@ -59,9 +61,9 @@ keeps_grid week step before = not (is_rest step.stay.kind) || (start_of week ste
 abbrev pub rests_home : Step → PartialDuty → Bool
 rests_home step before = not (is_weekly step.stay.kind) || (place_after before == 0)
 
--- the lengths of a break or an idle time
+-- the lengths of a break or an idle time: none, the parts of a break, a full break, the first part of a split daily rest (Art. 7, 4(g))
 abbrev pub is_plain_length : ℕ → Bool
-is_plain_length off = (off == 0) || ((off == 15) || ((off == 30) || ((off == 45) || (off == 180))))
+is_plain_length off = (off == 0) || ((off == FIRST_PART) || ((off == SECOND_PART) || ((off == FULL_BREAK) || (off == SPLIT_REST))))
 
 -- the Off minutes of a stay: a Plain one has one of five lengths, a Daily or Weekly one has a minute
 abbrev pub is_length : Kind → ℕ → Bool
@@ -89,7 +91,7 @@ follows_road week step before = can_be_done week (place_after before) step.act
 
 -- the times: the step's act ends by the end of the week
 abbrev pub ends_in_week : Week → Step → PartialDuty → Bool
-ends_in_week week step before = nat_le (at_after week (step ∷ before)) 10080
+ends_in_week week step before = nat_le (at_after week (step ∷ before)) WEEK_MINUTES
 
 -- windows: a service starts within its order's window
 abbrev pub is_in_window : Week → Step → PartialDuty → Bool

@@ -7,7 +7,7 @@ use Rattle.duty_plan.specs.declared.deciding.Pairs.{Pairs}
 use Rattle.duty_plan.specs.declared.pricing.Prices.{Prices}
 use Rattle.duty_plan.specs.declared.labels.Label.{Label}
 use Rattle.duty_plan.specs.PartialDuties.{PartialDuty, at_after, serves}
-use Rattle.duty_plan.specs.Duties.{IsCase, IsLawfulPartialDuty}
+use Rattle.duty_plan.specs.Duties.{IsCase, IsLawfulPartialDuty, duty_cost_limit}
 use Rattle.duty_plan.specs.Values.{IsInside, IsLeast, IsPrices, reduced_cost}
 use Rattle.duty_plan.specs.Labels.{closes_of}
 use Rattle.duty_plan.specs.LabelLists.{AreReached, Entry, IsLabelList, completion_bound}
@@ -32,4 +32,4 @@ ListsStayInReach = (case : Case) (driver : ℕ) (pairs : Pairs) (prices : Prices
 abbrev pub LeastIsSmall : Type 0
 LeastIsSmall = (case : Case) (driver : ℕ) (pairs : Pairs) (prices : Prices) (value : ℤ) (duty : Duty) → IsCase case →
     IsPrices case.week prices → IsLeast case driver pairs prices value duty →
-    ((pos 0 -ℤ pos 12000000000) ≤ℤ value) × (value ≤ℤ pos 20170000000)
+    ((pos 0 -ℤ pos 12000000000) ≤ℤ value) × (value ≤ℤ pos duty_cost_limit)

@@ -1,6 +1,6 @@
 // The judges of a duty and of a plan.
 ghost use Rattle.std.specs.Prelude.{◌≡◌, ◌<◌, ◌≤◌, ◌^◌, ◌↔◌, IsOk, IfOk, length, reverse};
-ghost use Rattle.duty_plan.specs.Duties.{EachOf, IsCase, IsLawful, IsLawfulPlan, partial_of, cost_after, cost_of_plan};
+ghost use Rattle.duty_plan.specs.Duties.{EachOf, IsCase, IsLawful, IsLawfulPlan, partial_of, cost_after, cost_of_plan, duty_cost_limit, plan_cost_limit};
 ghost use Rattle.duty_plan.specs.Verdicts.{duty_verdict, plan_verdict};
 ghost use Rattle.duty_plan.specs.DutyChecks.{AnswersDuties};
 
@@ -41,6 +41,7 @@ pub fn check_duty(case: &Case, driver: u32, duty: &Duty) -> Result<u64, DutyFaul
     ensures verdict { result ≡ duty_verdict case.now driver duty.now }
     ensures lawful { IsOk result ↔ IsLawful case.now driver duty.now }
     ensures cost { IfOk result (λ cents. cents ≡ cost_after case.now driver (partial_of duty.now)) }
+    ensures limit { IfOk result (λ cents. cents ≤ duty_cost_limit) }
 {
     check_steps(case, driver, duty.steps.as_slice())
 }
@@ -73,6 +74,7 @@ pub fn check_plan(case: &Case, plan: &Plan) -> Result<u64, PlanFault>
     ensures verdict { result ≡ plan_verdict case.now plan.now }
     ensures lawful { IsOk result ↔ IsLawfulPlan case.now plan.now }
     ensures cost { IfOk result (λ cents. cents ≡ cost_of_plan case.now plan.now) }
+    ensures limit { IfOk result (λ cents. cents ≤ plan_cost_limit) }
 {
     let duties = plan.duties.as_slice();
     if duties.len() != case.week.drivers.len() {

@@ -1,6 +1,7 @@
 // What a judge keeps of the steps behind it.
 ghost use Rattle.std.specs.Prelude.{◌≡◌, ◌+◌, ◌≤◌, ◌<◌, ◌^◌, ◌==◌, [], true, if◌then◌else◌, None};
 ghost use Rattle.std.specs.Result.{ForOk};
+ghost use Rattle.minute_line.specs.declared.lines.TheConstants.{WEEK_MINUTES};
 ghost use Rattle.minute_line.specs.Minutes.{Minutes};
 ghost use Rattle.minute_line.specs.Marks.{is_working, is_rest};
 ghost use Rattle.hours_rules.specs.Rules.{Past};
@@ -41,7 +42,7 @@ fn hours_after(
     requires clock { ForOk hours.now (λ clock. IsClock clock) }
     requires act { is_working mark ≡ true }
     requires some { 0 < minutes }
-    requires end { ForOk hours.now (λ clock. clock.at + stay.ready + stay.off + minutes ≤ 10080) }
+    requires end { ForOk hours.now (λ clock. clock.at + stay.ready + stay.off + minutes ≤ WEEK_MINUTES) }
     requires ready { ForOk hours.now (λ clock. 0 < clock.off → stay.ready ≡ 0) }
     requires run { ForOk hours.now (λ clock. is_rest stay.kind ≡ true → 0 < clock.off + stay.off) }
     ensures { (past : Past) (week : Minutes) → StandsOrBreaks 0 past week hours.now → StandsOrBreaks 0 past (with_stay stay mark minutes week) result }

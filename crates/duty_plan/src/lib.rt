@@ -15,6 +15,8 @@ mod laws;
 mod lines;
 mod nodes;
 mod office;
+#[cfg(test)]
+mod office_tests;
 mod orders;
 mod outcomes;
 mod planning;

@@ -8,7 +8,7 @@ ghost use Rattle.duty_plan.specs.Labels.{bit_of_act, served_after};
 ghost use Rattle.duty_plan.specs.Positions.{HasBit};
 
 use crate::duties::Act;
-use hours_rules::Stay;
+use hours_rules::{FIRST_PART, FULL_BREAK, SECOND_PART, SPLIT_REST, Stay};
 use minute_line::Kind;
 use week_book::{Week, leg};
 
@@ -76,7 +76,7 @@ pub(crate) fn place_after(act: Act, place: u32) -> u32
 fn is_plain(off: u32) -> bool
     ensures { result ≡ is_plain_length off }
 {
-    matches!(off, 0 | 15 | 30 | 45 | 180)
+    matches!(off, 0 | FIRST_PART | SECOND_PART | FULL_BREAK | SPLIT_REST)
 }
 
 /// Whether the stay has the lengths of its kind, where it may stand after an open run of the history.

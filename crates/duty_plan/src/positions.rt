@@ -11,10 +11,8 @@ use crate::office::{
     act_start, carries, effect_of, grid, lengths, loaded_after, night, place_after, serves_anew,
     used_after, window, with_bit,
 };
+use minute_line::WEEK_MINUTES;
 use week_book::{Driver, Week};
-
-/// The minutes of a week.
-const WEEK: u64 = 10_080;
 
 /// Where steps leave a driver: what of them the office rules at the next step ask for.
 #[derive(Clone, Copy, PartialEq, Eq, Debug)]
@@ -86,7 +84,7 @@ impl Position {
         if !grid(step.stay.kind, start, week.grid) {
             return Some(DutyFault::Grid(number));
         }
-        if end > WEEK {
+        if end > u64::from(WEEK_MINUTES) {
             return Some(DutyFault::Late(number));
         }
         if !window(week, step.act, start) {

@@ -52,4 +52,9 @@ returns c =
     let says = tells c.args.case.now c.args.plan.now (Ok (c.in-Ok.cents + c.price_of_all.result)) c.requires.out
     (sym (verdict-none c.args.case.now c.args.plan.now (c.in-Ok.cents + c.price_of_all.result) n h (sym c.twice.ensures ∙ c.in_default.is)
     (sym c.lost.ensures ∙ c.in_default-lost.is) cents)) in
-    record { verdict = says.verdict; lawful = says.lawful; cost = says.cost }
+    record {
+      verdict = says.verdict;
+      lawful = says.lawful;
+      cost = says.cost;
+      limit = omega (arith, c.in-Ok.ensures.2, n, ap length c.as_slice-duties.ensures, c.requires.case.week.few.1, c.price_of_all.ensures.bound, c.requires.case.week.few.2);
+    }
