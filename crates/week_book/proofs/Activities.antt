@@ -1,6 +1,7 @@
 -- A driver's did rows in their ranges have a minute each, but for a first one that is off.
-use Rattle.std.proofs.Common.{◌≡◌, ◌∙◌, ℕ, Bool, true, false, not, ◌&&◌, ◌||◌, if◌then◌else◌, nat_le, None, List, [], ◌∷◌, ◌++◌, refl, sym, ap, subst}
+use Rattle.std.proofs.Common.{◌≡◌, ◌∙◌, ℕ, Bool, true, false, not, ◌&&◌, ◌||◌, if◌then◌else◌, nat_le, Some, None, List, [], ◌∷◌, ◌++◌, refl, sym, ap, subst}
 use Rattle.std.proofs.lemmas.Bool.{false≢true, and_parts, and_from, or_left, or_right, or_from}
+use Rattle.std.specs.List.{cons_option}
 use Rattle.std.specs.Str.{bytes_eq}
 use Rattle.std.specs.Cmp.Lexicographic.{bytes_decides}
 use Rattle.week_book.specs.declared.rows.Row.{Row}
@@ -36,7 +37,7 @@ first_span false lasts off begun fits = absurd (false≢true fits)
 
 lasts_case : (same : Bool) (mark : Word) (n minutes : ℕ) (begun : Bool) (rest : List Activity) → (same ≡ true → begun ≡ true)
     → is_did_span begun mark minutes ≡ true → each_lasts rest ≡ true
-    → each_lasts (if same then record { row = n; word = mark; minutes = minutes } ∷ rest else rest) ≡ true
+    → each_lasts (cons_option (if same then Some (record { row = n; word = mark; minutes = minutes }) else None) rest) ≡ true
 lasts_case true mark n minutes begun rest is_begun fits others =
     and_from _ _ (lasts_span (nat_le minutes 10080) (nat_le 1 minutes) (is_off_word mark)
     (subst (λ (b : Bool). is_did_span b mark minutes ≡ true) (is_begun refl) fits)) others
@@ -44,7 +45,7 @@ lasts_case false mark n minutes begun rest is_begun fits others = others
 
 zero_case : (same : Bool) (mark : Word) (n minutes : ℕ) (begun : Bool) (rest : List Activity) → is_did_span begun mark minutes ≡ true
     → (same ≡ true → each_lasts rest ≡ true) → (same ≡ false → zero_first rest ≡ true)
-    → zero_first (if same then record { row = n; word = mark; minutes = minutes } ∷ rest else rest) ≡ true
+    → zero_first (cons_option (if same then Some (record { row = n; word = mark; minutes = minutes }) else None) rest) ≡ true
 zero_case true mark n minutes begun rest fits others later =
     and_from _ _ (first_span (nat_le minutes 10080) (nat_le 1 minutes) (is_off_word mark) begun fits) (others refl)
 zero_case false mark n minutes begun rest fits others later = later refl

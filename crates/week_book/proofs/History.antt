@@ -1,7 +1,7 @@
 -- The history rows and did rows of a text without faults.
 use Rattle.std.proofs.Common.{◌≡◌, ◌∙◌, ℕ, ◌≤◌, Bool, true, false, ◌&&◌, if◌then◌else◌, nat_le, int_le, pos, Some, None, List, [], ◌∷◌, length, map, refl, sym, ap, inl, inr, ◌⊎◌, arith}
 use Rattle.std.proofs.lemmas.Bool.{and_parts, and_from}
-use Rattle.std.specs.List.{AllByRecursion, list_all}
+use Rattle.std.specs.List.{AllByRecursion, list_all, cons_option}
 use Rattle.std.specs.Str.{bytes_eq}
 use Rattle.std.specs.Cmp.Lexicographic.{bytes_decides}
 use Rattle.minute_line.specs.Stints.{all_up_to}
@@ -69,7 +69,7 @@ one_item items key empty adds (r ∷ rs) far =
 -- a row of one driver adds to the items of that driver alone
 of_driver : {X : Type 0} (items : List Row → List X) (kind : ℕ) (driver name : List ℕ) (r : Row) (rs : List Row) (x : X)
     → key_of r ≡ Some (kind ∷ driver)
-    → (same : Bool) → bytes_eq driver name ≡ same → items (r ∷ rs) ≡ (if same then x ∷ items rs else items rs)
+    → (same : Bool) → bytes_eq driver name ≡ same → items (r ∷ rs) ≡ cons_option (if same then Some x else None) (items rs)
     → Adds items (kind ∷ name) r rs
 of_driver items kind driver name r rs x key true is adds =
     inr (key ∙ ap (λ (who : List ℕ). Some (kind ∷ who)) ((bytes_decides driver name).0 is), x, adds)

@@ -1,6 +1,8 @@
 -- What of a text's rows the histories and driven lines of its drivers rest on.
-use Rattle.std.specs.Prelude.{◌≡◌, ℕ, ◌≤◌, Bool, true, false, ◌&&◌, if◌then◌else◌, nat_le, int_le, pos, ℤ, List, [], ◌∷◌, length}
+use Rattle.std.specs.Prelude.{◌≡◌, ℕ, ◌≤◌, Bool, true, false, ◌&&◌, if◌then◌else◌, nat_le, int_le, pos, ℤ, List, [], ◌∷◌, length, Option, Some, None}
+use Rattle.std.specs.List.{filter_map}
 use Rattle.std.specs.Str.{bytes_eq}
+use Rattle.minute_line.specs.declared.lines.TheConstants.{WEEK_MINUTES}
 use Rattle.minute_line.specs.Stints.{all_up_to}
 use Rattle.week_book.specs.declared.rows.Row.{Row}
 use Rattle.week_book.specs.declared.rows.Row.TheVariants.{Rest, Worked, Past, Did}
@@ -24,33 +26,41 @@ pub record PastWorkingTime : Type 0 where
   pub last : ℕ
   pub weeks : List ℕ
 
+-- what a past row says of the driver of this name
+abbrev pub past_activity : List ℕ → Row → Option Activity
+past_activity name (Past row driver w minutes) = if bytes_eq driver name then Some (record { row = row; word = w; minutes = minutes }) else None
+past_activity name _ = None
+
+-- what a did row says of the driver
+abbrev pub did_activity : List ℕ → Row → Option Activity
+did_activity name (Did row driver w minutes) = if bytes_eq driver name then Some (record { row = row; word = w; minutes = minutes }) else None
+did_activity name _ = None
+
+-- what a rest row says of the driver
+abbrev pub rest_said : List ℕ → Row → Option Rested
+rest_said name (Rest row driver end minutes) = if bytes_eq driver name then Some (record { end = end; minutes = minutes }) else None
+rest_said name _ = None
+
+-- what a worked row says of the driver
+abbrev pub past_working_time : List ℕ → Row → Option PastWorkingTime
+past_working_time name (Worked row driver last weeks) = if bytes_eq driver name then Some (record { last = last; weeks = weeks }) else None
+past_working_time name _ = None
+
 -- the past rows of a driver, in order
 abbrev pub past_activities : List ℕ → List Row → List Activity
-past_activities name [] = []
-past_activities name (Past row driver w minutes ∷ rs) =
-    if bytes_eq driver name then record { row = row; word = w; minutes = minutes } ∷ past_activities name rs else past_activities name rs
-past_activities name (_ ∷ rs) = past_activities name rs
+past_activities name rows = filter_map (past_activity name) rows
 
 -- the did rows of a driver, in order
 abbrev pub did_activities : List ℕ → List Row → List Activity
-did_activities name [] = []
-did_activities name (Did row driver w minutes ∷ rs) =
-    if bytes_eq driver name then record { row = row; word = w; minutes = minutes } ∷ did_activities name rs else did_activities name rs
-did_activities name (_ ∷ rs) = did_activities name rs
+did_activities name rows = filter_map (did_activity name) rows
 
 -- the rest rows of a driver, in order
 abbrev pub rests_of : List ℕ → List Row → List Rested
-rests_of name [] = []
-rests_of name (Rest row driver end minutes ∷ rs) =
-    if bytes_eq driver name then record { end = end; minutes = minutes } ∷ rests_of name rs else rests_of name rs
-rests_of name (_ ∷ rs) = rests_of name rs
+rests_of name rows = filter_map (rest_said name) rows
 
 -- the worked rows of a driver, in order
 abbrev pub past_working_times_of : List ℕ → List Row → List PastWorkingTime
-past_working_times_of name [] = []
-past_working_times_of name (Worked row driver last weeks ∷ rs) =
-    if bytes_eq driver name then record { last = last; weeks = weeks } ∷ past_working_times_of name rs else past_working_times_of name rs
-past_working_times_of name (_ ∷ rs) = past_working_times_of name rs
+past_working_times_of name rows = filter_map (past_working_time name) rows
 
 -- OFF, DAILY and WEEKLY are off
 abbrev pub is_off_word : Word → Bool
@@ -64,9 +74,9 @@ is_off_word word.Ready = false
 -- a history row or a did row keeps the ranges of its own fields
 abbrev pub in_past_range : Row → Bool
 in_past_range (Rest row driver end minutes) = int_le end (pos 0) && (nat_le 1440 minutes && nat_le minutes 1000000)
-in_past_range (Worked row driver last weeks) = nat_le last 10080 && all_up_to 10080 weeks
+in_past_range (Worked row driver last weeks) = nat_le last WEEK_MINUTES && all_up_to WEEK_MINUTES weeks
 in_past_range (Past row driver w minutes) = nat_le 1 minutes && nat_le minutes 2000000
-in_past_range (Did row driver w minutes) = nat_le minutes 10080
+in_past_range (Did row driver w minutes) = nat_le minutes WEEK_MINUTES
 in_past_range _ = true
 
 -- each has a minute

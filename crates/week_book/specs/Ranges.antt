@@ -2,6 +2,7 @@
 use Rattle.std.specs.Prelude.{ℕ, ◌+◌, Bool, true, false, not, ◌&&◌, ◌||◌, ◌==◌, if◌then◌else◌, nat_le, int_le, ℤ, pos, Option, Some, None, List, [], ◌∷◌, map, filter_map}
 use Rattle.std.specs.List.{list_all}
 use Rattle.std.specs.Str.{bytes_eq}
+use Rattle.minute_line.specs.declared.lines.TheConstants.{WEEK_MINUTES}
 use Rattle.week_book.specs.declared.rows.Row.{Row}
 use Rattle.week_book.specs.declared.rows.Row.TheVariants as row
 use Rattle.week_book.specs.declared.rows.Word.{Word}
@@ -47,7 +48,7 @@ has_begun names _ = false
 
 -- a did row has no minute only where it is off and its driver's first
 abbrev pub is_did_span : Bool → Word → ℕ → Bool
-is_did_span begun mark minutes = nat_le minutes 10080 && (nat_le 1 minutes || (is_off_word mark && not begun))
+is_did_span begun mark minutes = nat_le minutes WEEK_MINUTES && (nat_le 1 minutes || (is_off_word mark && not begun))
 
 -- for each field after a row's word, whether it is in its range; a did row's driver may have begun before
 abbrev pub fields_in_range : Bool → Row → List Bool
@@ -58,7 +59,7 @@ fields_in_range begun (row.Leg n from to minutes cents) =
     is_name from ∷ is_other_name from to ∷ is_within 1 270 minutes ∷ nat_le cents 1000000 ∷ []
 fields_in_range begun (row.Driver n name capacity fee) = is_name name ∷ is_within 1 100000 capacity ∷ nat_le fee 10000000 ∷ []
 fields_in_range begun (row.Rest n driver end minutes) = is_name driver ∷ int_le end (pos 0) ∷ is_within 1440 1000000 minutes ∷ []
-fields_in_range begun (row.Worked n driver last weeks) = is_name driver ∷ nat_le last 10080 ∷ map (λ m. nat_le m 10080) weeks
+fields_in_range begun (row.Worked n driver last weeks) = is_name driver ∷ nat_le last WEEK_MINUTES ∷ map (λ m. nat_le m WEEK_MINUTES) weeks
 fields_in_range begun (row.Past n driver mark minutes) = is_name driver ∷ true ∷ is_within 1 2000000 minutes ∷ []
 fields_in_range begun (row.Did n driver mark minutes) = is_name driver ∷ true ∷ is_did_span begun mark minutes ∷ []
 fields_in_range begun (row.Order n name place opens closes service kg price) =

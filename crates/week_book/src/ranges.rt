@@ -1,5 +1,6 @@
 // The first field that lies outside its range.
 ghost use Rattle.std.specs.Prelude.{◌≡◌, false, true, ◌<◌, ◌^◌, [], ◌∷◌, ◌++◌, length, map, nat_le, IfOk, option_to_list};
+ghost use Rattle.minute_line.specs.declared.lines.TheConstants.{WEEK_MINUTES};
 ghost use Rattle.week_book.specs.Names.{is_name};
 ghost use Rattle.week_book.specs.Faults.{row_number, Passes};
 ghost use Rattle.week_book.specs.Ranges.{is_within, is_week_minute, is_close_of, is_grid, is_other_name, is_did_span, did_name, has_begun, fields_in_range, first_outside, range_fault};
@@ -11,6 +12,7 @@ use crate::errors::WeekError;
 use crate::name_indexes::NameIndex;
 use crate::names::is_name;
 use crate::rows::{Row, Word};
+use minute_line::WEEK_MINUTES;
 use std::alloc::{AllocError, Global};
 
 fn is_within(first: u64, last: u64, n: u64) -> bool
@@ -46,7 +48,7 @@ fn is_other_name(from: &[u8], to: &[u8]) -> bool
 fn is_did_span(begun: bool, word: Word, minutes: u64) -> bool
     ensures { result ≡ is_did_span begun word minutes }
 {
-    minutes <= 10_080 && (1 <= minutes || (word.is_off() && !begun))
+    minutes <= WEEK_MINUTES as u64 && (1 <= minutes || (word.is_off() && !begun))
 }
 
 /// The first field that is outside its range, of the fields after a row's word.
@@ -65,11 +67,11 @@ fn first_outside(row: u32, fields: &[bool]) -> Option<WeekError>
 }
 
 fn weeks_outside(row: u32, weeks: &[u64; 16]) -> Option<WeekError>
-    ensures { result ≡ first_outside row 4 (map (λ m. nat_le m 10080) weeks.now) }
+    ensures { result ≡ first_outside row 4 (map (λ m. nat_le m WEEK_MINUTES) weeks.now) }
 {
     let mut field = 4;
     for week in weeks {
-        if *week > 10_080 {
+        if *week > WEEK_MINUTES as u64 {
             return Some(WeekError::Range(row, field));
         }
         field += 1;
@@ -125,12 +127,12 @@ fn leg_outside(row: u32, from: &[u8], to: &[u8], minutes: u64, cents: u64) -> Op
 }
 
 fn worked_outside(row: u32, driver: &[u8], last: u64, weeks: &[u64; 16]) -> Option<WeekError>
-    ensures { result ≡ first_outside row 2 (is_name driver.now ∷ nat_le last 10080 ∷ map (λ m. nat_le m 10080) weeks.now) }
+    ensures { result ≡ first_outside row 2 (is_name driver.now ∷ nat_le last WEEK_MINUTES ∷ map (λ m. nat_le m WEEK_MINUTES) weeks.now) }
 {
     if !is_name(driver) {
         return Some(WeekError::Range(row, 2));
     }
-    if last > 10_080 {
+    if last > WEEK_MINUTES as u64 {
         return Some(WeekError::Range(row, 3));
     }
     weeks_outside(row, weeks)
