@@ -19,7 +19,7 @@ use Rattle.hours_rules.proofs.Simulate.{every-minute}
 use Rattle.hours_rules.proofs.Stints.{fault_stays-stints, block-duty}
 use Rattle.hours_rules.proofs.Faults.{block-stands}
 use Rattle.driver_history.specs.Carrying.{SinceWeeklyRestFields, carry, add_off, add_duty, end_off, all_stints}
-use Rattle.driver_history.specs.Keeping.{IsKept, held}
+use Rattle.driver_history.specs.Keeping.{KeepsHistoryBounds, held}
 use Rattle.driver_history.proofs.Carry.{whole_of, weekly_ends, all_total, carry_small, prev-end_off, prev-add_duty}
 use Rattle.driver_history.proofs.Shapes.{past-carry}
 use Rattle.driver_history.proofs.Watching.{Tracks, tracks-carry, tracks-duty, duty_off, each_lasts, Lasts, first_lasts, rest_lasts, stands-stint, declared-add_stint}
@@ -103,8 +103,8 @@ total-duty past c k d w m n f l s t h =
     omega (arith, all_total (add_duty (end_off c) m n))
 
 kept-duty : (past : Past) (c : SinceWeeklyRestFields) (k : Clock) (d : Kind) (w : Minutes) (s : Stint) → is_off s.mark ≡ false → 1 ≤ s.minutes →
-    Stands k past w → Tracks c k d → IsKept c → c.open_off ≤ 1000000 → fault past (stretch s.minutes s.mark d w) ≡ None →
-    IsKept (carry c s)
+    Stands k past w → Tracks c k d → KeepsHistoryBounds c → c.open_off ≤ 1000000 → fault past (stretch s.minutes s.mark d w) ≡ None →
+    KeepsHistoryBounds (carry c s)
 kept-duty past c k d w s f l st t kept o h =
     let next : carry c s ≡ add_duty (end_off c) s.mark s.minutes = rw f refl in record {
       rest = rw next (rest-duty past c k d w s.mark s.minutes f l st t kept.rest h);
@@ -113,22 +113,22 @@ kept-duty past c k d w s f l st t kept o h =
       total = rw next (total-duty past c k d w s.mark s.minutes f l st t h);
     }
 
-pub kept-off : (c : SinceWeeklyRestFields) (n : ℕ) (kind : Kind) → IsKept c → IsKept (add_off c n kind)
+pub kept-off : (c : SinceWeeklyRestFields) (n : ℕ) (kind : Kind) → KeepsHistoryBounds c → KeepsHistoryBounds (add_off c n kind)
 kept-off c n kind k = record { rest = k.rest; short = k.short; shape = k.shape; total = k.total }
 
 pub kept-carry : (past : Past) (c : SinceWeeklyRestFields) (k : Clock) (d : Kind) (r : Reached) (s : Stint) → Lasts s → r.declared ≡ d →
-    Stands k past r.minutes → Tracks c k d → IsKept c → c.open_off ≤ 1000000 → fault past (add_stint r s).minutes ≡ None →
-    IsKept (carry c s)
+    Stands k past r.minutes → Tracks c k d → KeepsHistoryBounds c → c.open_off ≤ 1000000 → fault past (add_stint r s).minutes ≡ None →
+    KeepsHistoryBounds (carry c s)
 kept-carry past c k d r s l e st t kept o h = by_mark (is_off s.mark) refl
   where
-    by_mark : (b : Bool) → is_off s.mark ≡ b → IsKept (carry c s)
+    by_mark : (b : Bool) → is_off s.mark ≡ b → KeepsHistoryBounds (carry c s)
     by_mark true f = rw f (kept-off c s.minutes s.kind kept)
     by_mark false f =
         kept-duty past c k d r.minutes s f (l f) st t kept o (rw (block-duty s.mark s.minutes s.kind r (duty_off s.mark f), e) at h)
 
 pub kept-fold : (past : Past) (ss : List Stint) (c : SinceWeeklyRestFields) (k : Clock) (d : Kind) (r : Reached) → each_lasts ss ≡ true → r.declared ≡ d →
-    Stands k past r.minutes → Tracks c k d → IsKept c → held c + total_of ss ≤ 1000000 → fault past (fold add_stint r ss).minutes ≡ None →
-    IsKept (fold carry c ss)
+    Stands k past r.minutes → Tracks c k d → KeepsHistoryBounds c → held c + total_of ss ≤ 1000000 → fault past (fold add_stint r ss).minutes ≡ None →
+    KeepsHistoryBounds (fold carry c ss)
 kept-fold past [] c k d r l e st t kept o h = kept
 kept-fold past (s ∷ ss) c k d r l e st t kept o h =
     let sum = sum_by-cons (λ (x : Stint). x.minutes) s ss in

@@ -15,7 +15,7 @@ use Rattle.hours_rules.specs.Standing.{Stands}
 use Rattle.hours_rules.specs.Debts.{Debt}
 use Rattle.hours_rules.specs.Machine.{run_ended, ticked, rested, weekly_here}
 use Rattle.driver_history.specs.Carrying.{SinceWeeklyRestFields, rest, same_mark, no_line, all_stints, add_off, end_off, add_duty, carry}
-use Rattle.driver_history.specs.Keeping.{IsKept, held}
+use Rattle.driver_history.specs.Keeping.{KeepsHistoryBounds, held}
 use Rattle.driver_history.proofs.Carry.{weekly_ends, carry_small, open-add_duty, prev-add_duty, prev-end_off, declared-add_duty}
 use Rattle.driver_history.proofs.Shapes.{same_is, some_minutes, no_minutes, all-after_rest}
 use Rattle.driver_history.proofs.Watching.{Tracks, tracks-carry, after_block, declared_after, watch, declared_by, each_lasts, first_lasts, rest_lasts, Lasts, stands-stint, declared-add_stint}
@@ -153,7 +153,7 @@ rests-uncut (s ∷ ss) c w i h = (
     never : (b : Bool) → is_off s.mark ≡ false → w ≡ true → ⊥
     never b o t = let first : (is_off s.mark || not w) ≡ true = grind arith in let bad : (is_off s.mark || not w) ≡ false = rw (o, t) refl in cc
 
-long-rest : (c : SinceWeeklyRestFields) (s : Stint) → IsKept (carry c s) → is_off s.mark ≡ false → weekly_ends c ≡ true → 1440 ≤ c.open_off
+long-rest : (c : SinceWeeklyRestFields) (s : Stint) → KeepsHistoryBounds (carry c s) → is_off s.mark ≡ false → weekly_ends c ≡ true → 1440 ≤ c.open_off
 long-rest c s kept o e =
     let next : carry c s ≡ add_duty (end_off c) s.mark s.minutes = rw o refl in
     let prev : (carry c s).prev_weekly ≡ c.open_off = rw (next, prev-add_duty (end_off c) s.mark s.minutes, prev-end_off c, e) refl in
@@ -161,7 +161,7 @@ long-rest c s kept o e =
 
 -- a lawful line
 pub rests-lawful : (past : Past) (ss : List Stint) (c : SinceWeeklyRestFields) (k : Clock) (d : Kind) (r : Reached) → each_lasts ss ≡ true → r.declared ≡ d →
-    Stands k past r.minutes → Tracks c k d → IsKept c → held c + total_of ss ≤ 1000000 → fault past (fold add_stint r ss).minutes ≡ None → RestsLong c ss
+    Stands k past r.minutes → Tracks c k d → KeepsHistoryBounds c → held c + total_of ss ≤ 1000000 → fault past (fold add_stint r ss).minutes ≡ None → RestsLong c ss
 rests-lawful past [] c k d r l e st t kept o h = tt
 rests-lawful past (s ∷ ss) c k d r l e st t kept o h =
     let sum = sum_by-cons (λ (x : Stint). x.minutes) s ss in

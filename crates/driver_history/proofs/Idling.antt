@@ -115,11 +115,6 @@ weeks_to : (n : ℕ) (f : Fields) → length f.work16 ≡ 16 → n ≤ 16 → (i
 weeks_to zero f e l = sym (append-nil f.work16)
 weeks_to (suc n) f e l = ap (λ ws. drop 1 ws ++ 0 ∷ []) (weeks_to n f e (omega arith)) ∙ next_week n f.work16 (omega arith)
 
--- a week of no work among no other
-all_idle : (k n : ℕ) (f : Fields) → (idle_of n f).work16 ≡ replicate 16 0 → (idle_of (k + n) f).work16 ≡ replicate 16 0
-all_idle zero n f h = let e : 0 + n ≡ n = omega arith in rw e h
-all_idle (suc k) n f h = let e : suc k + n ≡ suc (k + n) = omega arith in rw (e, all_idle k n f h) refl
-
 same_fields : (f g : Fields) → f.prev_weekly ≡ g.prev_weekly → f.stints ≡ g.stints → f.open_off ≡ g.open_off → f.prev_drive ≡ g.prev_drive →
     f.work16 ≡ g.work16 → f.owed ≡ g.owed → f.due ≡ g.due → f ≡ g
 same_fields f g a b c d e p q = λ i. record { prev_weekly = a i; stints = b i; open_off = c i; prev_drive = d i; work16 = e i; owed = p i; due = q i }

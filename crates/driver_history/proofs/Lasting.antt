@@ -1,5 +1,6 @@
 -- Judging after the history that rows say is judging after the rows' own minutes.
-use Rattle.std.proofs.Common.{◌≡◌, ℕ, zero, suc, ◌+◌, ◌-◌, ◌*◌, ◌/◌, ◌≤◌, ◌<◌, ◌≤ℤ◌, false, nat_eq, unsigned_abs, inl, inr, ◌⊎◌, List, [], map, fold, refl, arith, subst, ◌∙◌, ap, Option, Some, None, Ok, sum, pos, negsuc, ℤ, ◌-ℤ◌}
+use Rattle.std.proofs.Common.{◌≡◌, ℕ, zero, suc, ◌+◌, ◌-◌, ◌*◌, ◌/◌, ◌≤◌, ◌<◌, ◌≤ℤ◌, false, nat_eq, unsigned_abs, inl, inr, ◌⊎◌, List, [], map, fold, refl, arith, subst, ◌∙◌, ap, Option, Some, None, Ok, Err, sum, pos, negsuc, ℤ, ◌-ℤ◌, slice_get}
+use Rattle.std.specs.Option.{option_map_or}
 use Rattle.std.proofs.lemmas.Bool.{cases_lt}
 use Rattle.std.proofs.lemmas.Int.{ints}
 use Rattle.minute_line.specs.declared.marks.Kind.TheVariants.{Plain}
@@ -18,8 +19,8 @@ use Rattle.hours_rules.specs.Verdicts.{past_of}
 use Rattle.hours_rules.proofs.Starts.{stands-monday}
 use Rattle.driver_history.specs.declared.errors.HistoryError.{HistoryError}
 use Rattle.driver_history.specs.Carrying.{no_line, carry}
-use Rattle.driver_history.specs.Finding.{ArePast, IsRest}
-use Rattle.driver_history.specs.Reading.{stint_of, past_fault, history_by, history_said, some_history, unless, first_of, past_said}
+use Rattle.driver_history.specs.Finding.{ArePast, IsRestInRange}
+use Rattle.driver_history.specs.Reading.{stint_said, past_fault, history_by, history_said, some_history, past_said}
 use Rattle.driver_history.specs.Laws.{rows_past}
 use Rattle.driver_history.proofs.Watching.{watch, declared_by, stands-watch}
 use Rattle.driver_history.proofs.Rows.{are_past, is_rest}
@@ -49,34 +50,34 @@ last_minute (pos zero) h = refl
 last_minute (pos (suc n)) h = absurd (omega (arith, ints))
 last_minute (negsuc n) h = omega (arith, ints)
 
-rest-due : (rested : Rested) → IsRest rested → (pos (weeks_left (unsigned_abs rested.end) * 10080) ≡ third_week_end (rested.end -ℤ pos 1))
+rest-due : (rested : Rested) → IsRestInRange rested → (pos (weeks_left (unsigned_abs rested.end) * 10080) ≡ third_week_end (rested.end -ℤ pos 1))
     ⊎ ((pos (weeks_left (unsigned_abs rested.end) * 10080) ≤ℤ pos 0) × (third_week_end (rested.end -ℤ pos 1) ≤ℤ pos 0))
 rest-due rested i = rw (last_minute rested.end i.end) (weeks-end (unsigned_abs rested.end))
 
 -- the clock of the rows' minutes, from the end of the rest on
 abbrev rows_clock : Rested → PastWorkingTime → List Activity → Clock
 rows_clock rested past_work ss =
-    watch (first_clock rested.minutes past_work.last (sum past_work.weeks) (rows_past rested past_work ss).debt) Plain (map stint_of ss)
+    watch (first_clock rested.minutes past_work.last (sum past_work.weeks) (rows_past rested past_work ss).debt) Plain (map stint_said ss)
 
 rows-stands : (rested : Rested) (past_work : PastWorkingTime) (ss : List Activity) → ArePast ss → past_fault rested ss ≡ None →
     Stands (at_monday (rows_clock rested past_work ss)) (rows_past rested past_work ss) []
 rows-stands rested past_work ss p f =
     let first : Past = record (rows_past rested past_work ss) { minutes = [] } in
-    stands-monday (rows_clock rested past_work ss) first (reached_by (map stint_of ss)).minutes refl
-    (no_weekly-rows (map stint_of ss) (cuts-late ss (reads rested ss f).late))
-    (stands-watch (map stint_of ss) (first_clock rested.minutes past_work.last (sum past_work.weeks) first.debt) first nothing Plain refl (lasts-read ss p.lasts)
+    stands-monday (rows_clock rested past_work ss) first (reached_by (map stint_said ss)).minutes refl
+    (no_weekly-rows (map stint_said ss) (cuts-late ss (reads rested ss f).late))
+    (stands-watch (map stint_said ss) (first_clock rested.minutes past_work.last (sum past_work.weeks) first.debt) first nothing Plain refl (lasts-read ss p.lasts)
     (first-stands rested.minutes past_work.last (sum past_work.weeks) first.debt))
 
 rows-follow : (rested : Rested) (past_work : PastWorkingTime) (ss : List Activity) → ArePast ss → past_fault rested ss ≡ None →
-    Follows (fold carry (no_line rested.minutes) (map stint_of ss)) (owed_by rested.minutes) (rows_clock rested past_work ss) (declared_by Plain (map stint_of ss))
+    Follows (fold carry (no_line rested.minutes) (map stint_said ss)) (owed_by rested.minutes) (rows_clock rested past_work ss) (declared_by Plain (map stint_said ss))
 rows-follow rested past_work ss p f =
     let debt = (rows_past rested past_work ss).debt in
     let cuts = cuts-late ss (reads rested ss f).late in
     let clock = first_clock rested.minutes past_work.last (sum past_work.weeks) debt in
-    subst (λ (b : Debt). Follows (fold carry (no_line rested.minutes) (map stint_of ss)) b.owed (rows_clock rested past_work ss) (declared_by Plain (map stint_of ss)))
-    (begun-uncut (map stint_of ss) debt clock Plain false (λ e. e) cuts)
-    (follows-fold (map stint_of ss) (no_line rested.minutes) debt clock Plain (lasts-read ss p.lasts)
-    (rests-uncut (map stint_of ss) (no_line rested.minutes) false (λ e. e) cuts) (follows-first rested.minutes past_work.last (sum past_work.weeks) debt))
+    subst (λ (b : Debt). Follows (fold carry (no_line rested.minutes) (map stint_said ss)) b.owed (rows_clock rested past_work ss) (declared_by Plain (map stint_said ss)))
+    (begun-uncut (map stint_said ss) debt clock Plain false (λ e. e) cuts)
+    (follows-fold (map stint_said ss) (no_line rested.minutes) debt clock Plain (lasts-read ss p.lasts)
+    (rests-uncut (map stint_said ss) (no_line rested.minutes) false (λ e. e) cuts) (follows-first rested.minutes past_work.last (sum past_work.weeks) debt))
 
 rows-keep : (rested : Rested) (past_work : PastWorkingTime) (ss : List Activity) → past_fault rested ss ≡ None →
     IsKeptDebt (rows_past rested past_work ss).debt (rows_clock rested past_work ss).owed (rows_clock rested past_work ss).due
@@ -84,11 +85,11 @@ rows-keep rested past_work ss f =
     let debt = (rows_past rested past_work ss).debt in
     let clock = first_clock rested.minutes past_work.last (sum past_work.weeks) debt in
     subst (λ (b : Debt). IsKeptDebt b (rows_clock rested past_work ss).owed (rows_clock rested past_work ss).due)
-    (begun-uncut (map stint_of ss) debt clock Plain false (λ e. e) (cuts-late ss (reads rested ss f).late))
-    (keeps-watch_debt (map stint_of ss) debt clock Plain (record { owed_is = λ l. refl; due_is = λ l. refl }))
+    (begun-uncut (map stint_said ss) debt clock Plain false (λ e. e) (cuts-late ss (reads rested ss f).late))
+    (keeps-watch_debt (map stint_said ss) debt clock Plain (record { owed_is = λ l. refl; due_is = λ l. refl }))
 
 rows-state : (h : History) (rested : Rested) (past_work : PastWorkingTime) (ss : List Activity) → fields_of h ≡ history_by rested past_work ss →
-    States h (fold carry (no_line rested.minutes) (map stint_of ss)) (owed_by rested.minutes) past_work.last (sum past_work.weeks)
+    States h (fold carry (no_line rested.minutes) (map stint_said ss)) (owed_by rested.minutes) past_work.last (sum past_work.weeks)
 rows-state h rested past_work ss e = record {
   prev = ap (λ (f : Fields). f.prev_weekly) e;
   stints = ap (λ (f : Fields). f.stints) e;
@@ -98,7 +99,7 @@ rows-state h rested past_work ss e = record {
   owed = ap (λ (f : Fields). f.owed) e;
 }
 
-rows-dues : (h : History) (rested : Rested) (past_work : PastWorkingTime) (ss : List Activity) → IsRest rested → past_fault rested ss ≡ None →
+rows-dues : (h : History) (rested : Rested) (past_work : PastWorkingTime) (ss : List Activity) → IsRestInRange rested → past_fault rested ss ≡ None →
     fields_of h ≡ history_by rested past_work ss → 0 < (past_clock h).owed → 0 < (rows_clock rested past_work ss).owed →
     ((past_clock h).due ≡ (rows_clock rested past_work ss).due) ⊎ (((past_clock h).due ≤ℤ pos 0) × ((rows_clock rested past_work ss).due ≤ℤ pos 0))
 rows-dues h rested past_work ss i f e some now =
@@ -112,7 +113,7 @@ rows-dues h rested past_work ss i f e some now =
     some_owed : (n : ℕ) → 0 < n → nat_eq n 0 ≡ false
     some_owed n h = grind arith
 
-after-rows : (h : History) (rested : Rested) (past_work : PastWorkingTime) (ss : List Activity) → IsRest rested → ArePast ss → past_fault rested ss ≡ None →
+after-rows : (h : History) (rested : Rested) (past_work : PastWorkingTime) (ss : List Activity) → IsRestInRange rested → ArePast ss → past_fault rested ss ≡ None →
     fields_of h ≡ history_by rested past_work ss → (week : Minutes) → fault (past_of h) week ≡ fault (rows_past rested past_work ss) week
 after-rows h rested past_work ss i p f e week =
     let k = rows_clock rested past_work ss in
@@ -122,7 +123,7 @@ after-rows h rested past_work ss i p f e week =
       second = moved_on k past_work.last (sum past_work.weeks) later;
       first_stands = monday-stands h;
       second_stands = moved-rows (rows-stands rested past_work ss p f);
-      near = near-stated h (fold carry (no_line rested.minutes) (map stint_of ss)) (owed_by rested.minutes) k (declared_by Plain (map stint_of ss)) past_work.last
+      near = near-stated h (fold carry (no_line rested.minutes) (map stint_said ss)) (owed_by rested.minutes) k (declared_by Plain (map stint_said ss)) past_work.last
           (sum past_work.weeks) later (rows-state h rested past_work ss e) (rows-follow rested past_work ss p f) refl (rows-dues h rested past_work ss i f e);
     })
   where
@@ -153,13 +154,13 @@ after-rows h rested past_work ss i p f e week =
     }
 
 -- the rows of a history have no fault, and it is the one that they make
-some_fields : (o : Option HistoryError) (f g : Fields) → some_history (unless o f) ≡ Ok (Some g) → (o ≡ None) × (g ≡ f)
+some_fields : (o : Option HistoryError) (f g : Fields) → some_history (option_map_or Err o (Ok f)) ≡ Ok (Some g) → (o ≡ None) × (g ≡ f)
 some_fields None f g e = (refl, cc)
 some_fields (Some x) f g e = cc
 
 pub rows-last : (rows : List Row) (name : List ℕ) (h : History) (rested : Rested) (past_work : PastWorkingTime) → HasPastRows rows →
-    past_said name rows ≡ Ok (Some (fields_of h)) → first_of (rests_of name rows) ≡ Some rested →
-    first_of (past_working_times_of name rows) ≡ Some past_work → (week : Minutes) →
+    past_said name rows ≡ Ok (Some (fields_of h)) → slice_get (rests_of name rows) 0 ≡ Some rested →
+    slice_get (past_working_times_of name rows) 0 ≡ Some past_work → (week : Minutes) →
     fault (past_of h) week ≡ fault (rows_past rested past_work (past_activities name rows)) week
 rows-last rows name h rested past_work p e r w week =
     let said : some_history (history_said rested past_work (past_activities name rows)) ≡ Ok (Some (fields_of h)) = rw (r, w) at e in

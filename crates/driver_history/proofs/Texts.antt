@@ -3,19 +3,12 @@ use Rattle.std.proofs.Common.{◌≡◌, ℕ, ◌+◌, ◌≤◌, true, leb, inl
 use Rattle.std.proofs.lemmas.Bool.{cases_Bool}
 use Rattle.std.proofs.lemmas.Bool.Decides.{nat_tests}
 use Rattle.std.proofs.lemmas.List.Elements.{filter_map-append}
-use Rattle.std.specs.List.{filter_map}
 use Rattle.std.specs.Str.{bytes_eq}
 use Rattle.week_book.specs.declared.rows.Row.{Row}
 use Rattle.week_book.specs.declared.rows.Row.TheVariants.{Past, Did}
 use Rattle.week_book.specs.declared.rows.Word.{Word}
 use Rattle.week_book.specs.Texts.{each_row}
-use Rattle.week_book.specs.Pasts.{Activity, rests_of, past_working_times_of, did_activities, in_past_range, each_lasts, zero_first, HasPastRows}
-use Rattle.driver_history.specs.Finding.{did_in, rest_in, past_working_time_in}
-use Rattle.driver_history.proofs.Rows.{did-rows, rest-rows, past_work-rows}
-
-rows-append : {B : Type 0} (f : Row → Option B) (all : List Row → List B) → ((rows : List Row) → filter_map f rows ≡ all rows) →
-    (xs ys : List Row) → all (xs ++ ys) ≡ all xs ++ all ys
-rows-append f all is xs ys = sym (is (xs ++ ys)) ∙ filter_map-append f xs ys ∙ rw (is xs, is ys) refl
+use Rattle.week_book.specs.Pasts.{did_activity, rest_said, past_working_time, Activity, rests_of, past_working_times_of, did_activities, in_past_range, each_lasts, zero_first, HasPastRows}
 
 ranges-append : (xs ys : List Row) → each_row in_past_range xs ≡ true → each_row in_past_range ys ≡ true → each_row in_past_range (xs ++ ys) ≡ true
 ranges-append [] ys h g = g
@@ -41,9 +34,9 @@ pub text-append : (xs ys : List Row) → HasPastRows xs → length xs + length y
 text-append xs ys h few a = record {
   few = omega (arith, length-append xs ys);
   ranges = ranges-append xs ys h.ranges a.ranges;
-  rests = λ (name : List ℕ). rw (rows-append (rest_in name) (rests_of name) (rest-rows name) xs ys, a.rests name, append-nil (rests_of name xs)) (h.rests name);
-  past_works = λ (name : List ℕ). rw (rows-append (past_working_time_in name) (past_working_times_of name) (past_work-rows name) xs ys, a.past_works name, append-nil (past_working_times_of name xs)) (h.past_works name);
-  zeros = λ (name : List ℕ). rw (rows-append (did_in name) (did_activities name) (did-rows name) xs ys) (zeros-append (did_activities name xs) (did_activities name ys) (h.zeros name) (a.lasts name));
+  rests = λ (name : List ℕ). rw (filter_map-append (rest_said name) xs ys, a.rests name, append-nil (rests_of name xs)) (h.rests name);
+  past_works = λ (name : List ℕ). rw (filter_map-append (past_working_time name) xs ys, a.past_works name, append-nil (past_working_times_of name xs)) (h.past_works name);
+  zeros = λ (name : List ℕ). rw (filter_map-append (did_activity name) xs ys) (zeros-append (did_activities name xs) (did_activities name ys) (h.zeros name) (a.lasts name));
 }
 
 pub adds-past : (row : ℕ) (driver : List ℕ) (w : Word) (minutes : ℕ) → 1 ≤ minutes → minutes ≤ 2000000 → Adds (Past row driver w minutes ∷ [])

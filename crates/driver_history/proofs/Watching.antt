@@ -129,7 +129,3 @@ pub stands-watch : (ss : List Stint) (k : Clock) (past : Past) (r : Reached) (d 
 stands-watch [] k past r d e l h = h
 stands-watch (s ∷ ss) k past r d e l h =
     stands-watch ss _ past (add_stint r s) _ (declared-add_stint s r) (rest_lasts s ss l) (stands-stint k past r d s e (first_lasts s ss l) h)
-
-pub declared-watch : (ss : List Stint) (r : Reached) (d : Kind) → r.declared ≡ d → (fold add_stint r ss).declared ≡ declared_by d ss
-declared-watch [] r d e = e
-declared-watch (s ∷ ss) r d e = declared-watch ss (add_stint r s) _ (declared-add_stint s r)

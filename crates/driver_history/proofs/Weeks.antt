@@ -23,7 +23,7 @@ use Rattle.hours_rules.proofs.DebtSizes.{no_weekly-history}
 use Rattle.hours_rules.proofs.Faults.{fault-off}
 use Rattle.driver_history.specs.Carrying.{SinceWeeklyRestFields, no_line, rest, carry, add_off}
 use Rattle.driver_history.specs.Advancing.{left_of}
-use Rattle.driver_history.specs.Keeping.{IsKept, held}
+use Rattle.driver_history.specs.Keeping.{KeepsHistoryBounds, held}
 use Rattle.driver_history.proofs.Carry.{all_total, fold_small}
 use Rattle.driver_history.proofs.Watching.{Tracks, tracks-fold, tracks-off, watch, stands-watch, declared_by, each_lasts}
 use Rattle.driver_history.proofs.Bounds.{kept-off, kept-fold}
@@ -125,7 +125,7 @@ monday-tracks h =
     (tracks-fold h.stints.stints (no_line h.prev_weekly) (first_clock h.prev_weekly h.prev_drive (sum h.work16) (debt_from (fields_of h))) Plain
     (first-tracks h.prev_weekly h.prev_drive (sum h.work16) (debt_from (fields_of h)))))
 
-pub kept-past : (h : History) → IsKept (past_left h)
+pub kept-past : (h : History) → KeepsHistoryBounds (past_left h)
 kept-past h =
     let u = uncut-fold h.stints.stints (no_line h.prev_weekly) false (λ e. e) (cuts-past false h.stints.stints h.shape) in
     let prev = u.prev in let whole = u.whole in record {
@@ -145,7 +145,7 @@ pub held-monday : (h : History) → held (monday_left h) ≤ 40320
 held-monday h = let t = h.total in let r = h.run in omega (arith, fold_small h.stints.stints (no_line h.prev_weekly))
 
 -- what is left of a lawful week's line is what a history may hold
-pub kept-week : (h : History) (line : Line) → total_of line.stints ≤ 10080 → fault (past_of h) (week_minutes line) ≡ None → IsKept (left_of (fields_of h) line.stints)
+pub kept-week : (h : History) (line : Line) → total_of line.stints ≤ 10080 → fault (past_of h) (week_minutes line) ≡ None → KeepsHistoryBounds (left_of (fields_of h) line.stints)
 kept-week h line t f =
     let none : fault (past_of h) (fold add_stint nothing line.stints).minutes ≡ None =
     sym (fault-off 0 (past_of h) (10080 - length (reached_by line.stints).minutes) Plain (reached_by line.stints).minutes) ∙ f in

@@ -2,6 +2,8 @@
 use Rattle.std.specs.Prelude.{◌≡◌, ℕ, ◌+◌, ◌≤◌, true, false}
 use Rattle.minute_line.specs.Minutes.{total_of}
 use Rattle.minute_line.specs.Stints.{is_past}
+use Rattle.hours_rules.specs.declared.thresholds.TheConstants.{WEEKLY_REST}
+use Rattle.driver_history.specs.declared.reading.TheConstants.{LONGEST_PAST}
 use Rattle.driver_history.specs.declared.carrying.SinceWeeklyRest.{SinceWeeklyRest}
 use Rattle.driver_history.specs.Carrying.{SinceWeeklyRestFields, all_stints}
 
@@ -21,8 +23,8 @@ abbrev pub held : SinceWeeklyRestFields → ℕ
 held c = c.minutes + c.open_off
 
 -- what is left keeps the bounds of a history
-pub record IsKept (c : SinceWeeklyRestFields) : Type 0 where
-  pub rest : 1440 ≤ c.prev_weekly
+pub record KeepsHistoryBounds (c : SinceWeeklyRestFields) : Type 0 where
+  pub rest : WEEKLY_REST ≤ c.prev_weekly
   pub short : c.prev_weekly ≤ 1000000
   pub shape : is_past false (all_stints c) ≡ true
-  pub total : total_of (all_stints c) ≤ 20160
+  pub total : total_of (all_stints c) ≤ LONGEST_PAST

@@ -1,5 +1,5 @@
 -- What histories keep: of past rows, of a week, and of idle weeks.
-use Rattle.std.specs.Prelude.{◌≡◌, ℕ, ◌+◌, ◌≤◌, List, ◌++◌, ◌∷◌, [], drop, map, sum, Ok, Some, None, pos, ◌-ℤ◌}
+use Rattle.std.specs.Prelude.{◌≡◌, ℕ, ◌+◌, ◌≤◌, List, ◌++◌, ◌∷◌, [], drop, map, sum, Ok, Some, None, pos, ◌-ℤ◌, slice_get}
 use Rattle.minute_line.specs.declared.lines.Line.{Line}
 use Rattle.minute_line.specs.declared.lines.History.{History}
 use Rattle.minute_line.specs.declared.lines.TheConstants.{WEEK_MINUTES}
@@ -13,7 +13,7 @@ use Rattle.hours_rules.specs.Rules.{Past, fault}
 use Rattle.hours_rules.specs.Verdicts.{past_of, week_minutes}
 use Rattle.week_book.specs.declared.rows.Row.{Row}
 use Rattle.week_book.specs.Pasts.{Activity, Rested, PastWorkingTime, past_activities, rests_of, past_working_times_of, HasPastRows}
-use Rattle.driver_history.specs.Reading.{stint_of, first_of, past_said}
+use Rattle.driver_history.specs.Reading.{stint_said, past_said}
 use Rattle.driver_history.specs.Advancing.{advance_of, idle_of}
 
 -- a debt at the same line's start, where it is due counted from the next Monday
@@ -40,7 +40,7 @@ AdvanceLasts = (h next : History) (line : Line) → total_of line.stints ≤ WEE
 -- after the week of its last minute
 abbrev pub rows_past : Rested → PastWorkingTime → List Activity → Past
 rows_past rested past_work activities = record {
-  minutes = (reached_by (map stint_of activities)).minutes;
+  minutes = (reached_by (map stint_said activities)).minutes;
   prev_weekly = rested.minutes;
   prev_drive = past_work.last;
   work_before = sum past_work.weeks;
@@ -50,8 +50,8 @@ rows_past rested past_work activities = record {
 -- where the rows say a history, each week has the same first fault after it as after the rows' minutes
 abbrev pub RowsLast : Type 0
 RowsLast = (rows : List Row) (name : List ℕ) (h : History) (rested : Rested) (past_work : PastWorkingTime) → HasPastRows rows →
-    past_said name rows ≡ Ok (Some (fields_of h)) → first_of (rests_of name rows) ≡ Some rested →
-    first_of (past_working_times_of name rows) ≡ Some past_work → (week : Minutes) →
+    past_said name rows ≡ Ok (Some (fields_of h)) → slice_get (rests_of name rows) 0 ≡ Some rested →
+    slice_get (past_working_times_of name rows) 0 ≡ Some past_work → (week : Minutes) →
     fault (past_of h) week ≡ fault (rows_past rested past_work (past_activities name rows)) week
 
 -- more than sixteen idle weeks leave what sixteen leave

@@ -7,6 +7,7 @@ use Rattle.minute_line.specs.declared.lines.TheConstants.{WEEK_MINUTES}
 use Rattle.minute_line.specs.declared.debts.TheConstants.{REGULAR_WEEKLY_REST}
 use Rattle.minute_line.specs.Histories.{Fields}
 use Rattle.minute_line.specs.Marks.{is_off, is_daily, is_weekly}
+use Rattle.hours_rules.specs.declared.thresholds.TheConstants.{REGULAR_DAILY_REST}
 use Rattle.driver_history.specs.declared.owing.Owed.{Owed}
 use Rattle.driver_history.specs.declared.owing.Owing.{Owing}
 
@@ -17,7 +18,7 @@ ends_as_weekly o = nat_le 1 o.off && is_weekly o.declared
 -- it ends as a rest that pays what is owed
 abbrev pub ends_as_paying : Owing → Bool
 ends_as_paying o =
-    ((nat_le 1 o.off && is_daily o.declared) && nat_le (660 + o.debt.owed) o.off)
+    ((nat_le 1 o.off && is_daily o.declared) && nat_le (REGULAR_DAILY_REST + o.debt.owed) o.off)
     || (ends_as_weekly o && nat_le (REGULAR_WEEKLY_REST + o.debt.owed) o.off)
 
 -- it ends as a reduced weekly rest where nothing is owed yet

@@ -1,9 +1,9 @@
 // The rows of one driver.
 ghost use Rattle.std.specs.Prelude.{◌≡◌, ◌<◌, ◌≤◌, ◌^◌, length, map, true, false, IfOk, sum_by};
 ghost use Rattle.minute_line.specs.Stints.{all_up_to};
-ghost use Rattle.week_book.specs.Pasts.{Activity as ActivitySaid, Rested, PastWorkingTime, past_activities, did_activities, rests_of, past_working_times_of, is_off_word};
-ghost use Rattle.driver_history.specs.Reading.{stint_of, is_weekly_word, late_weekly, second_off, minutes_of, off_in, trailing_off, first_of};
-ghost use Rattle.driver_history.specs.Finding.{past_in, did_in, rest_in, past_working_time_in, each_within};
+ghost use Rattle.week_book.specs.Pasts.{Activity as ActivitySaid, past_activity, did_activity, past_activities, did_activities, is_off_word};
+ghost use Rattle.driver_history.specs.Reading.{stint_said, is_weekly_word, late_weekly, second_off, minutes_said, off_in, trailing_off};
+ghost use Rattle.driver_history.specs.Finding.{each_within};
 
 use minute_line::{Kind, Mark, Memory, Stint};
 use std::alloc::Global;
@@ -40,7 +40,7 @@ fn is_weekly(word: Word) -> bool
 
 /// What a past row of the driver says.
 fn past_row(row: &Row, name: &[u8]) -> Option<Activity>
-    ensures { result ≡ past_in name.now row.now }
+    ensures { result ≡ past_activity name.now row.now }
 {
     match row {
         Row::Past {
@@ -70,7 +70,7 @@ pub fn past_rows(alloc: Global, rows: &[Row], name: &[u8]) -> Result<Vec<Activit
 
 /// What a did row of the driver says.
 fn did_row(row: &Row, name: &[u8]) -> Option<Activity>
-    ensures { result ≡ did_in name.now row.now }
+    ensures { result ≡ did_activity name.now row.now }
 {
     match row {
         Row::Did {
@@ -127,8 +127,8 @@ pub fn find_second_off(activities: &[Activity]) -> Option<u32>
 
 /// The minutes of some rows.
 pub fn minutes(activities: &[Activity]) -> u64
-    requires { minutes_of activities.now < 2 ^ 64 }
-    ensures { result ≡ minutes_of activities.now }
+    requires { minutes_said activities.now < 2 ^ 64 }
+    ensures { result ≡ minutes_said activities.now }
 {
     activities.iter().map(|activity| activity.minutes).sum()
 }
@@ -157,7 +157,7 @@ pub fn trailing(activities: &[Activity]) -> u64
 /// The stint that a row says.
 fn stint(activity: &Activity) -> Stint
     requires { activity.now.minutes ≤ 2000000 }
-    ensures { result ≡ stint_of activity.now }
+    ensures { result ≡ stint_said activity.now }
 {
     let minutes = activity.minutes as u32;
     let (mark, kind) = match activity.word {
@@ -178,7 +178,7 @@ fn stint(activity: &Activity) -> Stint
 /// The stints that some rows say.
 pub fn stints(alloc: Global, activities: &[Activity]) -> Result<Vec<Stint>, Memory>
     requires { each_within 2000000 activities.now ≡ true }
-    ensures { IfOk result (λ stints. stints.items ≡ map stint_of activities.now) }
+    ensures { IfOk result (λ stints. stints.items ≡ map stint_said activities.now) }
 {
     let mut stints = Vec::new(alloc);
     for activity in activities {

@@ -5,13 +5,13 @@ ghost use Rattle.minute_line.specs.Histories.{fields_of};
 ghost use Rattle.minute_line.specs.Minutes.{total_of};
 ghost use Rattle.minute_line.specs.Stints.{all_up_to};
 ghost use Rattle.driver_history.specs.Carrying.{no_line, same_mark, all_stints, add_off, end_off, add_duty, carry, fields_left};
-ghost use Rattle.driver_history.specs.Keeping.{seen, held, IsKept};
+ghost use Rattle.driver_history.specs.Keeping.{seen, held, KeepsHistoryBounds};
 
 use minute_line::{History, Kind, Line, Many, Mark, Stint};
 use std::alloc::{AllocError, Global};
 
 /// The longest open run that a history states, in minutes: two weeks.
-pub const LONGEST_OPEN_RUN: u32 = 20160;
+pub const LONGEST_OPEN_RUN: u32 = 20_160;
 
 /// What is left of a line so far: the last weekly rest that ended, the stints since then, the on-duty block at their
 /// end, and the off run after it. Lengths are minutes.
@@ -150,7 +150,7 @@ impl SinceWeeklyRest {
 
     /// The history that states this, with the work of the weeks before, and nothing owed.
     pub fn into_history(self, prev_drive: u32, work16: [u32; 16]) -> Result<History, AllocError>
-        requires kept { IsKept (seen self) }
+        requires kept { KeepsHistoryBounds (seen self) }
         requires drive { prev_drive ≤ WEEK_MINUTES }
         requires weeks { all_up_to WEEK_MINUTES work16 ≡ true }
         ensures { IfOk result (λ history. fields_of history ≡ fields_left (seen self) prev_drive work16) }

@@ -3,10 +3,8 @@ ghost use Rattle.std.specs.Prelude.{◌≡◌, ◌≤◌, fold};
 ghost use Rattle.minute_line.specs.Minutes.{total_of};
 ghost use Rattle.driver_history.specs.Owing.{ends_as_weekly, ends_as_paying, ends_as_owing, owed_now, owed_after, owe_stint, owing_from, owing_on_monday, weeks_later, IsShort};
 
+use hours_rules::REGULAR_DAILY_REST;
 use minute_line::{Kind, REGULAR_WEEKLY_REST, Stint, WEEK_MINUTES};
-
-/// The least daily rest that is not reduced (Art. 4: 11 hours).
-const REGULAR_DAILY_REST: u64 = 660;
 
 /// What is owed in minutes, and the end of the week by which it is due, in weeks from Monday.
 #[derive(Clone, Copy)]
@@ -66,7 +64,7 @@ impl Owing {
         let daily = self.off >= 1 && self.declared.is_daily();
         let off = self.off as u64;
         let owed = self.debt.owed as u64;
-        (daily && REGULAR_DAILY_REST + owed <= off)
+        (daily && REGULAR_DAILY_REST as u64 + owed <= off)
             || (self.ends_weekly() && REGULAR_WEEKLY_REST as u64 + owed <= off)
     }
 

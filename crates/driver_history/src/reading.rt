@@ -1,13 +1,13 @@
 // The history and the week's line that a driver's rows say.
-ghost use Rattle.std.specs.Prelude.{◌≡◌, ◌≤◌, ◌<◌, ◌^◌, length, true, option_map, IfOk};
+ghost use Rattle.std.specs.Prelude.{◌≡◌, ◌≤◌, ◌<◌, ◌^◌, length, true, option_map, IfOk, IfSome};
 ghost use Rattle.minute_line.specs.Answers.{Gives};
 ghost use Rattle.minute_line.specs.Histories.{fields_of};
 ghost use Rattle.minute_line.specs.Minutes.{total_of};
 ghost use Rattle.week_book.specs.Pasts.{HasPastRows};
 ghost use Rattle.driver_history.specs.declared.errors.HistoryError.TheVariants.{Memory as NoHistoryMemory};
 ghost use Rattle.driver_history.specs.declared.errors.LineError.TheVariants.{Memory as NoLineMemory};
-ghost use Rattle.driver_history.specs.Reading.{minutes_of, sum_fault, past_fault, history_said, past_said, line_said};
-ghost use Rattle.driver_history.specs.Finding.{ArePast, IsRest, IsPastWorkingTime};
+ghost use Rattle.driver_history.specs.Reading.{minutes_said, sum_fault, past_fault, history_said, by_rows, past_said, line_said};
+ghost use Rattle.driver_history.specs.Finding.{ArePast, IsRestInRange, IsPastWorkingTime};
 
 use crate::activities::{
     Activity, did_rows, find_late_weekly, find_second_off, minutes, past_rows, stints, trailing,
@@ -20,11 +20,11 @@ use std::alloc::Global;
 use week_book::Row;
 
 /// The most minutes that the stints of a history have.
-const LONGEST_PAST: u64 = 20160;
+const LONGEST_PAST: u64 = 20_160;
 
 /// What the minutes of past rows say against a history.
 fn find_sum_fault(rest: &Rest, activities: &[Activity]) -> Option<HistoryError>
-    requires rest { IsRest rest.now }
+    requires rest { IsRestInRange rest.now }
     requires activities { ArePast activities.now }
     ensures { result ≡ sum_fault rest.now activities.now }
 {
@@ -42,7 +42,7 @@ fn find_sum_fault(rest: &Rest, activities: &[Activity]) -> Option<HistoryError>
 
 /// Why past rows make no history after a rest: the first cause in its order.
 fn find_past_fault(rest: &Rest, activities: &[Activity]) -> Option<HistoryError>
-    requires rest { IsRest rest.now }
+    requires rest { IsRestInRange rest.now }
     requires activities { ArePast activities.now }
     ensures { result ≡ past_fault rest.now activities.now }
 {
@@ -62,7 +62,7 @@ fn history_after(
     worked: &Worked,
     activities: &[Activity],
 ) -> Result<History, HistoryError>
-    requires rest { IsRest rest.now }
+    requires rest { IsRestInRange rest.now }
     requires worked { IsPastWorkingTime worked.now }
     requires activities { ArePast activities.now }
     ensures { Gives NoHistoryMemory fields_of result (history_said rest.now worked.now activities.now) }
@@ -77,6 +77,26 @@ fn history_after(
     Ok(history.with_rest_debt(rest.length(), rest.minutes_to_monday()))
 }
 
+/// The history of a driver with these rows, or none where there is no row.
+fn history_by_rows(
+    alloc: Global,
+    rest: Option<Rest>,
+    worked: Option<Worked>,
+    activities: &[Activity],
+) -> Result<Option<History>, HistoryError>
+    requires rest { IfSome rest IsRestInRange }
+    requires worked { IfSome worked IsPastWorkingTime }
+    requires activities { ArePast activities.now }
+    ensures { Gives NoHistoryMemory (option_map fields_of) result (by_rows rest worked activities.now) }
+{
+    match (rest, worked) {
+        (None, None) if activities.is_empty() => Ok(None),
+        (None, _) => Err(HistoryError::NoRest),
+        (Some(_), None) => Err(HistoryError::NoWorked),
+        (Some(rest), Some(worked)) => Ok(Some(history_after(alloc, &rest, &worked, activities)?)),
+    }
+}
+
 /// The history that the rows say of a driver, or none where the driver has no rest row, worked row or past row.
 pub fn read_past(
     alloc: Global,
@@ -89,12 +109,9 @@ pub fn read_past(
     let rows = rows.as_slice();
     let name = driver.as_slice();
     let activities = past_rows(alloc, rows, name)?;
-    match (find_rest(rows, name), find_worked(rows, name)) {
-        (None, None) if activities.is_empty() => Ok(None),
-        (None, _) => Err(HistoryError::NoRest),
-        (Some(_), None) => Err(HistoryError::NoWorked),
-        (Some(rest), Some(worked)) => Ok(Some(history_after(alloc, &rest, &worked, &activities)?)),
-    }
+    let rest = find_rest(rows, name);
+    let worked = find_worked(rows, name);
+    history_by_rows(alloc, rest, worked, &activities)
 }
 
 /// The line of the week that the did rows of a driver say, one stint a row. It has at most the week's 10,080 minutes.

@@ -1,9 +1,9 @@
 // What stands before a driver's past rows: the rest and the worked row.
-ghost use Rattle.std.specs.Prelude.{◌≡◌, ◌≤◌, true};
+ghost use Rattle.std.specs.Prelude.{◌≡◌, ◌≤◌, true, slice_get};
 ghost use Rattle.minute_line.specs.Stints.{all_up_to};
-ghost use Rattle.week_book.specs.Pasts.{Rested, PastWorkingTime, rests_of, past_working_times_of};
-ghost use Rattle.driver_history.specs.Reading.{first_of, minutes_needed};
-ghost use Rattle.driver_history.specs.Finding.{rest_in, past_working_time_in, IsRest, IsPastWorkingTime};
+ghost use Rattle.week_book.specs.Pasts.{Rested, PastWorkingTime, rest_said, past_working_time, rests_of, past_working_times_of};
+ghost use Rattle.driver_history.specs.Reading.{minutes_needed};
+ghost use Rattle.driver_history.specs.Finding.{IsRestInRange, IsPastWorkingTime};
 
 use std::marker::Model;
 use week_book::Row;
@@ -36,7 +36,7 @@ impl Model for Worked {
 
 /// What a rest row of the driver says.
 fn rest_row(row: &Row, name: &[u8]) -> Option<Rest>
-    ensures { result ≡ rest_in name.now row.now }
+    ensures { result ≡ rest_said name.now row.now }
 {
     match row {
         Row::Rest {
@@ -54,7 +54,7 @@ fn rest_row(row: &Row, name: &[u8]) -> Option<Rest>
 
 /// The first rest row of a driver.
 pub fn find_rest(rows: &[Row], name: &[u8]) -> Option<Rest>
-    ensures { result ≡ first_of (rests_of name.now rows.now) }
+    ensures { result ≡ slice_get (rests_of name.now rows.now) 0 }
 {
     for row in rows {
         if let Some(rest) = rest_row(row, name) {
@@ -66,7 +66,7 @@ pub fn find_rest(rows: &[Row], name: &[u8]) -> Option<Rest>
 
 /// What a worked row of the driver says.
 fn worked_row(row: &Row, name: &[u8]) -> Option<Worked>
-    ensures { result ≡ past_working_time_in name.now row.now }
+    ensures { result ≡ past_working_time name.now row.now }
 {
     match row {
         Row::Worked {
@@ -84,7 +84,7 @@ fn worked_row(row: &Row, name: &[u8]) -> Option<Worked>
 
 /// The first worked row of a driver.
 pub fn find_worked(rows: &[Row], name: &[u8]) -> Option<Worked>
-    ensures { result ≡ first_of (past_working_times_of name.now rows.now) }
+    ensures { result ≡ slice_get (past_working_times_of name.now rows.now) 0 }
 {
     for row in rows {
         if let Some(worked) = worked_row(row, name) {
@@ -104,7 +104,7 @@ impl Rest {
 
     /// Its length in minutes.
     pub fn length(&self) -> u32
-        requires { IsRest self.now }
+        requires { IsRestInRange self.now }
         ensures { result ≡ self.now.minutes }
     {
         self.minutes as u32

@@ -1,18 +1,20 @@
-use Rattle.std.proofs.Common.{sym}
-use Rattle.driver_history.proofs.Rows.{are_past, is_rest, is_past_working_time}
+use Rattle.driver_history.proofs.Rows.{are_past, rests_said, past_works_said}
 use Rattle.driver_history.proofs.reading.read_past.Goals as goal
 
-pub history_after-requires-clause-rest : goal.history_after-requires-clause-rest
-history_after-requires-clause-rest c =
-    let e = sym c.in-Some-Some.ensures in
-    is_rest c.args.driver.now c.args.rows.now c.in-Some-Some.rest c.requires.ranges (rw (c.as_slice-rows.ensures, c.as_slice-name.ensures) at e)
+pub history_by_rows-requires-clause-rest : goal.history_by_rows-requires-clause-rest
+history_by_rows-requires-clause-rest c =
+    rw (c.find_rest-rest.ensures, c.as_slice-rows.ensures, c.as_slice-name.ensures) (rests_said c.args.driver.now c.args.rows.now c.requires.ranges)
 
-pub history_after-requires-clause-worked : goal.history_after-requires-clause-worked
-history_after-requires-clause-worked c =
-    let e = sym c.in-Some-Some.ensures' in
-    is_past_working_time c.args.driver.now c.args.rows.now c.in-Some-Some.worked c.requires.ranges (rw (c.as_slice-rows.ensures, c.as_slice-name.ensures) at e)
+pub history_by_rows-requires-clause-worked : goal.history_by_rows-requires-clause-worked
+history_by_rows-requires-clause-worked c =
+    rw (c.find_worked-worked.ensures, c.as_slice-rows.ensures, c.as_slice-name.ensures) (past_works_said c.args.driver.now c.args.rows.now c.requires.ranges)
 
-pub history_after-requires-clause-activities : goal.history_after-requires-clause-activities
-history_after-requires-clause-activities c =
+pub history_by_rows-requires-clause-activities : goal.history_by_rows-requires-clause-activities
+history_by_rows-requires-clause-activities c =
     rw (c.deref.ensures.value, c.in_ok-activities.ensures, c.as_slice-rows.ensures, c.as_slice-name.ensures)
     (are_past c.args.driver.now c.args.rows.now c.requires)
+
+pub returns : goal.returns
+returns c =
+    let said = c.history_by_rows.ensures in
+    rw (c.find_rest-rest.ensures, c.find_worked-worked.ensures, c.deref.ensures.value, c.in_ok-activities.ensures, c.as_slice-rows.ensures, c.as_slice-name.ensures) at said

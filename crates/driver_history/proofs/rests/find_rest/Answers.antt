@@ -1,15 +1,13 @@
 use Rattle.std.proofs.Common.{◌∙◌, sym, ap}
-use Rattle.driver_history.specs.Finding.{rest_in}
-use Rattle.driver_history.proofs.Rows.{first-rest, some_found, none_found}
+use Rattle.week_book.specs.Pasts.{rest_said}
+use Rattle.driver_history.proofs.Rows.{some_found, none_found}
 use Rattle.driver_history.proofs.rests.find_rest.Goals as goal
 
 pub returns-in-Some : goal.returns-in-Some
 returns-in-Some c =
-    some_found (rest_in c.args.name.now) c.args.rows.now c.loop-row.row-index c.row-item.result c.in-Some.rest c.loop-row-test.true c.loop-row.invariant
-    (ap (rest_in c.args.name.now) (sym c.row-item.is) ∙ sym c.in-Some.ensures)
-    ∙ first-rest c.args.name.now c.args.rows.now
+    some_found (rest_said c.args.name.now) c.args.rows.now c.loop-row.row-index c.row-item.result c.in-Some.rest c.loop-row-test.true c.loop-row.invariant
+    (ap (rest_said c.args.name.now) (sym c.row-item.is) ∙ sym c.in-Some.ensures)
 
 pub returns : goal.returns
 returns c =
-    none_found (rest_in c.args.name.now) c.args.rows.now c.loop-row.row-index c.loop-row-test.false c.loop-row.invariant
-    ∙ first-rest c.args.name.now c.args.rows.now
+    none_found (rest_said c.args.name.now) c.args.rows.now c.loop-row.row-index c.loop-row-test.false c.loop-row.invariant

@@ -1,6 +1,7 @@
-use Rattle.std.proofs.Common.{◌≡◌, drop}
-use Rattle.driver_history.specs.Finding.{past_working_time_in, first_some}
+use Rattle.std.proofs.Common.{◌≡◌, drop, slice_get}
+use Rattle.std.specs.List.{filter_map}
+use Rattle.week_book.specs.Pasts.{past_working_time}
 use Rattle.driver_history.proofs.rests.find_worked.Given as goal
 
 abbrev pub invariant-loop-row : goal.invariant-loop-row
-invariant-loop-row l = first_some (past_working_time_in l.name) (drop l.row-index l.rows) ≡ first_some (past_working_time_in l.name) l.rows
+invariant-loop-row l = slice_get (filter_map (past_working_time l.name) (drop l.row-index l.rows)) 0 ≡ slice_get (filter_map (past_working_time l.name) l.rows) 0
