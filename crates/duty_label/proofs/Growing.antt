@@ -21,7 +21,7 @@ use Rattle.duty_plan.specs.PartialDuties.{PartialDuty, line_after, KeepsOfficeTh
 use Rattle.duty_plan.specs.Duties.{IsCase, IsLawfulPartialDuty, past_at, past_or_none, open_off_at, open_or_none, capacity_at, capacity_or_none}
 use Rattle.duty_plan.specs.Duties.{worth}
 use Rattle.duty_plan.specs.Labels.{IsLabelOf}
-use Rattle.duty_plan.specs.Positions.{IsPositionOf, IsTaken}
+use Rattle.duty_plan.specs.Positions.{position_of, IsTaken}
 use Rattle.duty_plan.specs.Values.{IsPrices, price_at, reduced_cost}
 use Rattle.duty_plan.proofs.Stepping.{GoesOn, goes-on, IsSmallStep, small-taken}
 use Rattle.duty_label.specs.Children.{HasLabel, IsLabelOfSome, IsSmallValue, fault_of_step}
@@ -29,8 +29,8 @@ use Rattle.duty_label.proofs.Brought.{Names, fault-hours}
 use Rattle.duty_label.proofs.Values.{value-small, value-step}
 
 -- where a label says that its steps leave the driver
-abbrev pub position_of : Label → Position
-position_of label = record {
+abbrev pub label_position : Label → Position
+label_position label = record {
   at = label.clock.at;
   place = label.place;
   used = label.used;
@@ -40,20 +40,14 @@ position_of label = record {
 }
 
 pub is-position : (case : Case) (driver : ℕ) (prices : Prices) (before : PartialDuty) (label : Label) → HasLabel case driver prices before label →
-    IsPositionOf case.week before (position_of label)
-is-position case driver prices before label h = record {
-  at = h.label_of.clock.at;
-  place = h.label_of.place;
-  used = h.label_of.used;
-  loaded = h.label_of.loaded;
-  begun = h.label_of.fee_paid;
-  served = h.label_of.served;
-}
+    label_position label ≡ position_of case.week before
+is-position case driver prices before label h =
+    let of = h.label_of in rw (of.clock.at, of.place, of.used, of.loaded, of.fee_paid, of.served) refl
 
 -- what the step comes to, whatever partial duty has the position
 abbrev pub Takes : Case → Driver → History → Position → Step → StepEffect → Type 0
 Takes case lorry history position step taken =
-    (partial : PartialDuty) → KeepsOfficeThrough case.week history.open_off lorry.capacity partial → IsPositionOf case.week partial position →
+    (partial : PartialDuty) → KeepsOfficeThrough case.week history.open_off lorry.capacity partial → position ≡ position_of case.week partial →
     IsTaken case.week history.open_off lorry.capacity partial step taken
 
 -- the office rules hold through a lawful partial duty
@@ -67,7 +61,7 @@ keeps case driver lorry history partial n l =
 -- the step that is taken after a partial duty that has the label
 pub takes-label : (case : Case) (driver : ℕ) (prices : Prices) (lorry : Driver) (history : History) (before : PartialDuty) (label : Label)
     (step : Step) (taken : StepEffect) → Names case driver lorry history → HasLabel case driver prices before label →
-    Takes case lorry history (position_of label) step taken → IsTaken case.week history.open_off lorry.capacity before step taken
+    Takes case lorry history (label_position label) step taken → IsTaken case.week history.open_off lorry.capacity before step taken
 takes-label case driver prices lorry history before label step taken n h t =
     t before (keeps case driver lorry history before n h.lawful) (is-position case driver prices before label h)
 
@@ -82,7 +76,7 @@ stands-label case driver prices lorry history before label n h =
 -- the label's clock may go on through the step
 pub goes-label : (case : Case) (driver : ℕ) (prices : Prices) (lorry : Driver) (history : History) (label : Label) (step : Step)
     (taken : StepEffect) → IsCase case → Names case driver lorry history → IsLabelOfSome case driver prices label →
-    Takes case lorry history (position_of label) step taken → GoesOn label.clock step.stay taken.minutes
+    Takes case lorry history (label_position label) step taken → GoesOn label.clock step.stay taken.minutes
 goes-label case driver prices lorry history label step taken c n s t =
     let good = takes-label case driver prices lorry history s.partial label step taken n s.has_label t in
     goes-on case.week lorry.capacity history s.partial step taken.minutes label.clock c.week (keeps case driver lorry history s.partial n
@@ -92,7 +86,7 @@ goes-label case driver prices lorry history label step taken c n s t =
 -- a taken step is small
 pub small-label : (case : Case) (driver : ℕ) (prices : Prices) (lorry : Driver) (history : History) (label : Label) (step : Step)
     (taken : StepEffect) → IsCase case → Names case driver lorry history → IsLabelOfSome case driver prices label →
-    Takes case lorry history (position_of label) step taken → IsSmallStep taken
+    Takes case lorry history (label_position label) step taken → IsSmallStep taken
 small-label case driver prices lorry history label step taken c n s t =
     small-taken case.week history.open_off lorry.capacity s.partial step taken c.week
     (takes-label case driver prices lorry history s.partial label step taken n s.has_label t)
@@ -100,7 +94,7 @@ small-label case driver prices lorry history label step taken c n s t =
 -- what `go` answers for the longer line
 pub goes-line : (case : Case) (driver : ℕ) (prices : Prices) (lorry : Driver) (history : History) (before : PartialDuty) (label : Label)
     (step : Step) (taken : StepEffect) (answer : Result Clock Broken) → Names case driver lorry history →
-    HasLabel case driver prices before label → Takes case lorry history (position_of label) step taken →
+    HasLabel case driver prices before label → Takes case lorry history (label_position label) step taken →
     AnswersStay label.clock step.stay (mark_of step.act) taken.minutes answer → StandsOrBreaks 0 (past_of history)
     (line_after case.week (step ∷ before)) answer
 goes-line case driver prices lorry history before label step taken answer n h t a =
@@ -139,7 +133,7 @@ label-value case driver prices lorry history label c p n s =
 -- the label of one step more
 pub longer-label : (case : Case) (driver : ℕ) (prices : Prices) (lorry : Driver) (history : History) (before : PartialDuty) (label : Label)
     (step : Step) (taken : StepEffect) (clock : Clock) (fee price : ℕ) (value : ℤ) → Names case driver lorry history → HasLabel case driver prices before label →
-    Takes case lorry history (position_of label) step taken → AnswersStay label.clock step.stay (mark_of step.act) taken.minutes (Ok clock) →
+    Takes case lorry history (label_position label) step taken → AnswersStay label.clock step.stay (mark_of step.act) taken.minutes (Ok clock) →
     fee ≡ cond label.fee_paid 0 lorry.fee → price ≡ worth (price_at prices) (order_of_act step.act) →
     value ≡ label.value +ℤ pos (fee + taken.cents) -ℤ pos price →
     (fault_of_step case driver before step ≡ None) × IsLabelOf case driver prices (record {
@@ -160,10 +154,10 @@ longer-label case driver prices lorry history before label step taken clock fee 
       fault-hours case driver lorry history before step None n good.office line.1,
       record {
         clock = rw past line.0;
-        place = good.position.place;
-        served = good.position.served;
-        used = good.position.used;
-        loaded = good.position.loaded;
+        place = ap (λ (p : Position). p.place) good.position;
+        served = ap (λ (p : Position). p.served) good.position;
+        used = ap (λ (p : Position). p.used) good.position;
+        loaded = ap (λ (p : Position). p.loaded) good.position;
         fee_paid = refl;
         value = sum
             ∙ value-step case driver prices lorry before step label.fee_paid fee taken.cents price n.lorry_is h.label_of.fee_paid f

@@ -108,7 +108,7 @@ whole-duty case driver lorry history duty check a b s =
     let hours : broken_of check.hours ≡ fault (past_of history) (line_after case.week (partial_of duty)) =
     broken-partial (past_of history) (line_after case.week (partial_of duty)) check.hours s.hours in
     let cost = cost-partial case driver lorry (partial_of duty) check.steps check.cents a s.steps s.cents in
-    rw (open_off, capacity, office, past, s.position.place, hours, cost) refl
+    rw (open_off, capacity, office, past, s.position, hours, cost) refl
 
 -- what a verdict says in the words of the subject
 pub record Says (case : Case) (driver : ℕ) (duty : Duty) (answer : Result ℕ DutyFault) : Type 0 where

@@ -25,7 +25,7 @@ use Rattle.duty_plan.specs.Acts.{minutes_of, mark_of}
 use Rattle.duty_plan.specs.PartialDuties.{PartialDuty, place_after, at_after, line_after, KeepsOffice, KeepsOfficeThrough}
 use Rattle.duty_plan.specs.declared.faults.DutyFault.{DutyFault}
 use Rattle.duty_plan.specs.Duties.{night_of}
-use Rattle.duty_plan.specs.Positions.{IsPositionOf, IsTaken}
+use Rattle.duty_plan.specs.Positions.{position_of, IsTaken}
 use Rattle.duty_plan.specs.Verdicts.{Test, first_failed, numbered, tests_of_step}
 use Rattle.duty_plan.specs.DutyChecks.{StandsFor, StandsForSome}
 use Rattle.duty_plan.proofs.OfficeSteps.{night-small}
@@ -77,7 +77,7 @@ small-taken week open_off capacity before step taken w t =
 -- a walk's clock, where it has one, may go on through a step that was taken
 pub goes-check : (week : Week) (driver : Driver) (history : History) (step : Step) (check : DutyCheck) (taken : StepEffect) (clock : Clock) → IsWeek week →
     StandsForSome week driver history check →
-    ((before : PartialDuty) → KeepsOfficeThrough week history.open_off driver.capacity before → IsPositionOf week before check.position →
+    ((before : PartialDuty) → KeepsOfficeThrough week history.open_off driver.capacity before → check.position ≡ position_of week before →
     IsTaken week history.open_off driver.capacity before step taken) → check.hours ≡ Ok clock → GoesOn clock step.stay taken.minutes
 goes-check week driver history step check taken clock w h takes hours =
     let good = takes h.partial h.stands.office h.stands.position in
@@ -94,7 +94,7 @@ pub stands-step : (week : Week) (driver : Driver) (history : History) (before : 
 stands-step week driver history before check next step taken s t steps position cents hours = record {
   office = (t.office, s.office);
   steps = omega (arith, steps, s.steps);
-  position = rw position t.position;
+  position = position ∙ t.position;
   cents = omega (arith, cents, t.cents, s.cents);
   hours = rw t.minutes at hours;
 }

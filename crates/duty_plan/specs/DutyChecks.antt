@@ -16,13 +16,13 @@ use Rattle.duty_plan.specs.declared.duty_checks.DutyCheck.{DutyCheck}
 use Rattle.duty_plan.specs.PartialDuties.{PartialDuty, line_after, KeepsOfficeThrough}
 use Rattle.duty_plan.specs.Duties.{cents_after, cost_of_duties, duty_cost_limit, partial_of, orders_of, times}
 use Rattle.duty_plan.specs.Verdicts.{first_failed, tests_of_step, duties_fault}
-use Rattle.duty_plan.specs.Positions.{IsPositionOf}
+use Rattle.duty_plan.specs.Positions.{position_of}
 
 -- the walk stands for a partial duty of a driver, which keeps the office rules
 pub record StandsFor (week : Week) (driver : Driver) (history : History) (partial : PartialDuty) (check : DutyCheck) : Type 0 where
   pub office : KeepsOfficeThrough week history.open_off driver.capacity partial
   pub steps : check.steps ≡ length partial
-  pub position : IsPositionOf week partial check.position
+  pub position : check.position ≡ position_of week partial
   pub cents : check.cents ≡ cents_after week partial
   pub hours : StandsOrBreaks 0 (past_of history) (line_after week partial) check.hours
 

@@ -13,27 +13,29 @@ use Rattle.duty_plan.specs.Duties.{night_of}
 use Rattle.duty_plan.specs.Labels.{has_step, served_after}
 use Rattle.duty_plan.specs.Verdicts.{first_failed, numbered, tests_of_step}
 
--- the position is where the partial duty leaves the driver
-pub record IsPositionOf (week : Week) (partial : PartialDuty) (position : Position) : Type 0 where
-  pub at : position.at ≡ at_after week partial
-  pub place : position.place ≡ place_after partial
-  pub used : position.used ≡ used_after week partial
-  pub loaded : position.loaded ≡ loaded_after partial
-  pub begun : position.begun ≡ has_step partial
-  pub served : position.served ≡ served_after partial
+-- where the partial duty leaves the driver
+abbrev pub position_of : Week → PartialDuty → Position
+position_of week partial = record {
+  at = at_after week partial;
+  place = place_after partial;
+  used = used_after week partial;
+  loaded = loaded_after partial;
+  begun = has_step partial;
+  served = served_after partial;
+}
 
 -- the position is that of some partial duty that keeps the office rules
 pub record IsPositionOfSome (week : Week) (open_off : ℕ) (capacity : ℕ) (position : Position) : Type 0 where
   pub partial : PartialDuty
   pub office : KeepsOfficeThrough week open_off capacity partial
-  pub position_of : IsPositionOf week partial position
+  pub position_is : position ≡ position_of week partial
 
 -- the step keeps the office rules, and this is what it comes to
 pub record IsTaken (week : Week) (open_off : ℕ) (capacity : ℕ) (before : PartialDuty) (step : Step) (taken : StepEffect) : Type 0 where
   pub office : KeepsOffice week open_off capacity step before
   pub minutes : taken.minutes ≡ minutes_of week (place_after before) step.act
   pub cents : taken.cents ≡ night_of week step before + cents_of_act week (place_after before) step.act
-  pub position : IsPositionOf week (step ∷ before) taken.position
+  pub position : taken.position ≡ position_of week (step ∷ before)
 
 -- the answer is what the step comes to, or the first office test that it fails, told of the step of that number
 abbrev pub TriesStep : Week → ℕ → ℕ → ℕ → PartialDuty → Step → Result StepEffect DutyFault → Type 0

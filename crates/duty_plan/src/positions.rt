@@ -3,7 +3,7 @@ ghost use Rattle.std.specs.Prelude.{◌≡◌, ◌≤◌, ◌∷◌, [], true, o
 ghost use Rattle.week_book.specs.Weeks.{IsWeek, IsDriver};
 ghost use Rattle.duty_plan.specs.PartialDuties.{PartialDuty, KeepsOfficeThrough, at_after, follows_road};
 ghost use Rattle.duty_plan.specs.Verdicts.{first_failed, numbered, tests_of_step};
-ghost use Rattle.duty_plan.specs.Positions.{HasBit, IsPositionOf, IsPositionOfSome, TriesStep};
+ghost use Rattle.duty_plan.specs.Positions.{HasBit, IsPositionOfSome, TriesStep, position_of};
 
 use crate::duties::Step;
 use crate::faults::DutyFault;
@@ -45,7 +45,7 @@ pub struct StepEffect {
 impl Position {
     /// Monday 00:00 at the depot, before any step.
     pub fn on_monday() -> Position
-        ensures { (week : Week) → IsPositionOf week [] result }
+        ensures { (week : Week) → result ≡ position_of week [] }
     {
         Position {
             at: 0,
@@ -70,7 +70,7 @@ impl Position {
         requires week { IsWeek week.now }
         requires used { self.now.used ≤ 100000 }
         requires bit { HasBit step.now.act }
-        ensures { (before : PartialDuty) → IsPositionOf week.now before self.now → follows_road week.now step.now before ≡ true →
+        ensures { (before : PartialDuty) → self.now ≡ position_of week.now before → follows_road week.now step.now before ≡ true →
             end ≡ at_after week.now (step.now ∷ before) →
             result ≡ option_map (numbered number) (first_failed (tests_of_step week.now open_off lorry.now.capacity step.now before)) }
     {
@@ -115,7 +115,7 @@ impl Position {
         requires week { IsWeek week.now }
         requires lorry { IsDriver lorry.now }
         requires position { IsPositionOfSome week.now open_off lorry.now.capacity self.now }
-        ensures { (before : PartialDuty) → KeepsOfficeThrough week.now open_off lorry.now.capacity before → IsPositionOf week.now before self.now →
+        ensures { (before : PartialDuty) → KeepsOfficeThrough week.now open_off lorry.now.capacity before → self.now ≡ position_of week.now before →
             TriesStep week.now open_off lorry.now.capacity number before step.now result }
     {
         let Some(effect) = effect_of(week, self.place, step.act) else {

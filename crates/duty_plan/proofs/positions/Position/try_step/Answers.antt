@@ -1,5 +1,6 @@
-use Rattle.std.proofs.Common.{◌≤◌, ◌+◌, ◌∷◌, refl, sym, arith}
+use Rattle.std.proofs.Common.{◌≤◌, ◌+◌, ◌∷◌, ap, sym, arith}
 use Rattle.std.proofs.lemmas.Bool.{leb-true}
+use Rattle.duty_plan.specs.declared.positions.Position.{Position}
 use Rattle.duty_plan.specs.PartialDuties.{at_after}
 use Rattle.duty_plan.proofs.WeekLimits.{has-bit, small-act}
 use Rattle.duty_plan.proofs.OfficeSteps.{ends, kept, light-position, night-small, position-step, taken-cents}
@@ -10,10 +11,10 @@ returns c = λ before office s.
     let k = kept c.args.week.now c.args.open_off c.args.lorry.now.capacity c.args.number before c.args.self.now c.args.step.now c.fault.result _ c.in-Some.effect.minutes
     s c.in-Some.ensures.road c.in-Some.ensures.minutes (omega (arith, c.act_start.ensures.start, c.from.ensures)) (c.fault.ensures before s) c.in_default-fault.is in record {
       office = k;
-      minutes = rw s.place at c.in-Some.ensures.minutes;
+      minutes = rw (ap (λ (p : Position). p.place) s) at c.in-Some.ensures.minutes;
       cents = taken-cents c.args.week.now before c.args.self.now c.args.step.now c.night.result c.in-Some.effect.cents s c.night.ensures c.in-Some.ensures.cents;
-      position = position-step c.args.week.now before c.args.self.now _ c.args.step.now c.in-Some.effect.minutes s c.in-Some.ensures.minutes
-          (omega (arith, c.act_start.ensures.start, c.from.ensures)) c.place_after.ensures c.used_after.ensures c.loaded_after.ensures refl c.with_bit.ensures;
+      position = position-step c.args.week.now before c.args.self.now c.args.step.now _ _ _ c.in-Some.effect.minutes _ _ s c.in-Some.ensures.minutes
+          (omega (arith, c.act_start.ensures.start, c.from.ensures)) c.place_after.ensures c.used_after.ensures c.loaded_after.ensures c.with_bit.ensures;
     }
 
 pub fault-requires-clause-used : goal.fault-requires-clause-used
@@ -32,13 +33,13 @@ pub overflow_cast-result : goal.overflow_cast-result
 overflow_cast-result c =
     let h = c.requires.position in
     let k = kept c.args.week.now c.args.open_off c.args.lorry.now.capacity c.args.number h.partial c.args.self.now c.args.step.now c.fault.result _ c.in-Some.effect.minutes
-    h.position_of c.in-Some.ensures.road c.in-Some.ensures.minutes (omega (arith, c.act_start.ensures.start, c.from.ensures)) (c.fault.ensures h.partial h.position_of)
+    h.position_is c.in-Some.ensures.road c.in-Some.ensures.minutes (omega (arith, c.act_start.ensures.start, c.from.ensures)) (c.fault.ensures h.partial h.position_is)
     c.in_default-fault.is in
     let late : at_after c.args.week.now (c.args.step.now ∷ h.partial) ≤ 10080 = leb-true (at_after c.args.week.now (c.args.step.now ∷ h.partial)) 10080 k.late in
     omega (
       arith,
       late,
-      ends c.args.week.now h.partial c.args.self.now c.args.step.now (c.act_start.result + c.from.result) c.in-Some.effect.minutes h.position_of
+      ends c.args.week.now h.partial c.args.self.now c.args.step.now (c.act_start.result + c.from.result) c.in-Some.effect.minutes h.position_is
           c.in-Some.ensures.minutes (omega (arith, c.act_start.ensures.start, c.from.ensures)),
     )
 
