@@ -104,29 +104,3 @@ past_is_line [] h = refl
 past_is_line (s ∷ ss) h =
     let p = and_is (may_follow false s) (each_follows (is_off s.mark) ss) (past_follows false (s ∷ ss) h) in
     both (only_declares s || may_follow false s) (each_follows (is_off s.mark) ss) (or_true (only_declares s) (may_follow false s) p.0) p.1
-
--- for such fields there is a history
-pub history_with : (f : Fields) → is_history f ≡ true → (h : History) × (fields_of h ≡ f)
-history_with f v =
-    let facts = holds f v in (
-      record {
-        prev_weekly = f.prev_weekly;
-        stints = record { stints = f.stints; shape = past_is_line f.stints facts.shape };
-        open_off = f.open_off;
-        prev_drive = f.prev_drive;
-        work16 = f.work16;
-        owed = f.owed;
-        due = f.due;
-        rest = facts.rest;
-        shape = facts.shape;
-        total = facts.total;
-        run = facts.run;
-        drive = facts.drive;
-        sixteen = facts.sixteen;
-        weeks = facts.weeks;
-        debt = facts.debt;
-        deadline = facts.deadline;
-        no_debt = facts.no_debt;
-      },
-      refl,
-    )
