@@ -12,7 +12,7 @@ use Rattle.duty_plan.specs.Values.{cost_of_all, decided_by}
 use Rattle.duty_plan.specs.Rounds.{Round}
 use Rattle.duty_plan.specs.Nodes.{path_of, IsNode, IsTree, HasChildren, IsFreeAt}
 use Rattle.duty_plan.specs.Branching.{IsBestFirst, HasIncumbentCosts, IsBranchingPair, IsCandidate}
-use Rattle.duty_plan.specs.Trees.{HasRun, BeatsDuties, Begins}
+use Rattle.duty_plan.specs.Trees.{HasRun, BeatsDuties}
 use Rattle.duty_plan.proofs.Lists.{slice_get-lt}
 use Rattle.price_master.proofs.Carried.{get-below}
 use Rattle.price_master.proofs.Lookups.{get-before, get-after, at-most}
@@ -38,9 +38,7 @@ grows case limits cost less tree runs number node driver order forcing barring f
   shape = shape;
   all_runs = let two : length (first ∷ second ∷ []) ≡ 2 = omega arith in omega (arith, g.all_runs, t.size, length-append runs (first ∷ second ∷ []));
   each = λ k x run is h. each k x run is h (cases k x is);
-  seen = seen;
-  best_first = best_first;
-  picks = picks;
+  branching = record { seen = seen; best_first = best_first; picks = picks };
 }
   where
     lower : IsGrowing case limits less tree runs
@@ -142,7 +140,7 @@ grows case limits cost less tree runs number node driver order forcing barring f
         child.decision ≡ decision → IsRanNode case limits less (decision ∷ path_of tree number) node.bound node.prices child run → Ran k child run
     child_run decision child k run is l p d r =
         ran-in case limits less (decision ∷ path_of tree number) node.bound node.prices child run new k there
-        (record { root = λ e. absurd (omega (arith, some)); child = begun }) r
+        (λ e. absurd (omega (arith, some))) begun r
       where
         there : path_of new k ≡ decision ∷ path_of tree number
         there =
@@ -192,14 +190,14 @@ grows case limits cost less tree runs number node driver order forcing barring f
     }
       where
         unbranched : (k : ℕ) (x : Node) → x.state ≢ Branched → OneOfFour tree number cost node forcing barring k x → x.seen ≡ 0
-        unbranched k x n (inl c) = g.seen.unbranched k x c.1 n
+        unbranched k x n (inl c) = g.branching.seen.unbranched k x c.1 n
         unbranched k x n (inr (inl c)) = absurd (n (sym (ap (λ (y : Node). y.state) c.1)))
         unbranched k x n (inr (inr (inl c))) = sym (ap (λ (y : Node). y.seen) c.1) ∙ rf.unseen
         unbranched k x n (inr (inr (inr c))) = sym (ap (λ (y : Node). y.seen) c.1) ∙ rb.unseen
 
         branched : (k : ℕ) (x : Node) → x.state ≡ Branched → OneOfFour tree number cost node forcing barring k x →
             (x.bound < x.seen) × (less ≤ x.seen) × (x.seen ≤ cost_of_all case.week)
-        branched k x e (inl c) = lower.seen.branched k x c.1 e
+        branched k x e (inl c) = lower.branching.seen.branched k x c.1 e
         branched k x e (inr (inl c)) =
             subst (λ (y : Node). (y.bound < y.seen) × (less ≤ y.seen) × (y.seen ≤ cost_of_all case.week)) c.1 (chosen.below, low, chosen.cheap)
         branched k x e (inr (inr (inl c))) = absurd (rf.leaf (ap (λ (y : Node). y.state) c.1 ∙ e))
@@ -210,12 +208,12 @@ grows case limits cost less tree runs number node driver order forcing barring f
         falls j k one two a b l is at p q (inl lj) (inl lk) =
             let x = parent_at j one a lj is p in
             let y = parent_at k two b lk at q in
-            g.seen.falls j k x.node y.node a b l x.is_node y.is_node x.is_parent y.is_parent
+            g.branching.seen.falls j k x.node y.node a b l x.is_node y.is_node x.is_parent y.is_parent
         falls j k one two a b l is at p q (inr lj) (inl lk) = absurd (omega arith)
         falls j k one two a b l is at p q (inl lj) (inr lk) =
             let x = parent_at j one a lj is p in
             let there = ap (λ (y : Node). y.seen) (is_number two.parent b (fresh k two lk at) q) in
-            let range = g.seen.branched x.node.parent a x.is_parent x.branched in omega (arith, range.1)
+            let range = g.branching.seen.branched x.node.parent a x.is_parent x.branched in omega (arith, range.1)
         falls j k one two a b l is at p q (inr lj) (inr lk) =
             let here = ap (λ (y : Node). y.seen) (is_number one.parent a (fresh j one lj is) p) in
             let there = ap (λ (y : Node). y.seen) (is_number two.parent b (fresh k two lk at) q) in omega arith
@@ -253,7 +251,7 @@ grows case limits cost less tree runs number node driver order forcing barring f
             let back = like-back tree new ext j other c.is_node (omega (arith, c.earlier)) in
             let there : IsNode tree k x = subst (λ (m : ℕ). IsNode tree m x) (sym up.like.parent ∙ p) up.is_parent in
             let old = older_candidate child x.seen j other back.0 (omega arith) back.1 back.2 (not_empty j other back.0 back.1 c.is_node c.not_empty) c in
-            turn back.0 back.2 (g.best_first k child x up.node back.0 j there up.is_node (sym up.like.parent ∙ p) d o (sym up.like.decision ∙ e) old)
+            turn back.0 back.2 (g.branching.best_first k child x up.node back.0 j there up.is_node (sym up.like.parent ∙ p) d o (sym up.like.decision ∙ e) old)
           where
             turn : (old : Node) → IsLike old other → (x.bound < old.bound) ⊎ ((x.bound ≡ old.bound) × (k ≤ j)) →
                 (x.bound < other.bound) ⊎ ((x.bound ≡ other.bound) × (k ≤ j))
@@ -319,7 +317,7 @@ grows case limits cost less tree runs number node driver order forcing barring f
                 let range = g.shape.others child y s is in
                 let lk : k ≤ length tree = omega (arith, range.1) in
                 pick-like case.week tree new k run d o (path k lk)
-                (g.picks k child d o run y (older_run k run lk h (omega (arith, range.0))) is is_k is_d)
+                (g.branching.picks k child d o run y (older_run k run lk h (omega (arith, range.0))) is is_k is_d)
 
         by_case : OneOfFour tree number cost node forcing barring child forced → (child ≤ length tree) ⊎ (length tree < child) → IsBranchingPair case.week new k run d o
         by_case z (inl l) = older l

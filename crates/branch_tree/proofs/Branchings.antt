@@ -7,6 +7,7 @@ use Rattle.duty_plan.specs.declared.outcomes.Limits.{Limits}
 use Rattle.duty_plan.specs.declared.nodes.Decision.{Decision}
 use Rattle.duty_plan.specs.declared.nodes.Decision.TheVariants.{Root, Forced as forces, Barred as bars}
 use Rattle.duty_plan.specs.declared.nodes.Node.{Node}
+use Rattle.duty_plan.specs.declared.nodes.NodeStart.{NodeStart}
 use Rattle.duty_plan.specs.declared.deciding.Pairs.{Pairs}
 use Rattle.duty_plan.specs.declared.deciding.Pair.TheVariants.{Free}
 use Rattle.duty_plan.specs.declared.pricing.Prices.{Prices}
@@ -20,7 +21,7 @@ use Rattle.price_master.proofs.Lookups.{get-before, get-after, same-or-not, at-m
 use Rattle.branch_tree.specs.Growth.{IsKept, IsRanNode, IsChosen, turned, branched_at}
 use Rattle.branch_tree.specs.Leaving.{AreCounts, HasFreeIn, HasRan}
 use Rattle.branch_tree.specs.Reaching.{AreWeights, free_pairs}
-use Rattle.branch_tree.specs.Searching.{IsSearching, IsNextNode, IsNextPair}
+use Rattle.branch_tree.specs.Searching.{IsSearching, IsNextNode, IsNextPair, IsStartUnder}
 use Rattle.price_master.specs.Laws.{DecidesFree, ForcesOnce}
 use Rattle.price_master.proofs.Decisions.{is-forced}
 use Rattle.duty_plan.specs.Nodes.{IsTree}
@@ -40,7 +41,7 @@ single x y (suc n) h = cc
 
 pub root-searching : (case : Case) (limits : Limits) (plan : Plan) (cost : ℕ) (older : List Node) (start : Prices) (pairs : Pairs) (node : Node) (count : List ℕ) →
     IsLimits limits → IsKept case plan cost → AreStartPrices case.week start → ArePairsOf case.week (Root ∷ path_of older 0) pairs →
-    HasRan case limits cost pairs 0 start node count → node.parent ≡ 0 → node.decision ≡ Root → IsPrices case.week node.prices →
+    HasRan case limits cost (record { pairs = pairs; bound = 0; prices = start }) node count → node.parent ≡ 0 → node.decision ≡ Root → IsPrices case.week node.prices →
     IsSearching case limits plan cost (node ∷ []) (count ∷ [])
 root-searching case limits plan cost older start pairs node count l kept at p ran parent decision priced =
     let none : Root ∷ path_of older 0 ≡ Root ∷ [] = ap (λ (ds : List Decision). Root ∷ ds) (path-zero (reverse older)) in
@@ -87,18 +88,18 @@ two-more (y ∷ ys) a b x (suc n) h = by_rest (two-more ys a b x n h)
     by_rest (inr (inr g)) = inr (inr (omega arith, g.1))
 
 pub branch-searching : (case : Case) (limits : Limits) (plan less_plan : Plan) (cost middle less : ℕ) (tree : List Node) (counts : List (List ℕ)) (number : ℕ) (node : Node)
-    (here forced barred : Pairs) (count : List ℕ) (driver order : ℕ) (forcing barring : Node) (one two : List ℕ) →
+    (here : Pairs) (forced barred : NodeStart) (count : List ℕ) (driver order : ℕ) (forcing barring : Node) (one two : List ℕ) →
     IsSearching case limits plan cost tree counts → (next : IsNextNode cost tree number) → next.node ≡ node → length tree + 2 ≤ limits.nodes →
     ArePairsOf case.week (path_of tree number) here → slice_get counts (pred number) ≡ Some count → IsNextPair case.week here count driver order →
-    ArePairsOf case.week (forces driver order ∷ path_of tree number) forced → ArePairsOf case.week (bars driver order ∷ path_of tree number) barred →
-    middle ≤ cost → less ≤ middle → IsKept case less_plan less → HasRan case limits middle forced node.bound node.prices forcing one →
-    HasRan case limits less barred node.bound node.prices barring two → forcing.parent ≡ number → barring.parent ≡ number →
+    IsStartUnder case.week tree number (forces driver order) forced → IsStartUnder case.week tree number (bars driver order) barred →
+    middle ≤ cost → less ≤ middle → IsKept case less_plan less → HasRan case limits middle forced forcing one →
+    HasRan case limits less barred barring two → forcing.parent ≡ number → barring.parent ≡ number →
     forcing.decision ≡ forces driver order → barring.decision ≡ bars driver order → IsPrices case.week forcing.prices → IsPrices case.week barring.prices →
     IsSearching case limits less_plan less (branched_at tree number cost node forcing barring) (counts ++ one ∷ two ∷ [])
 branch-searching case limits plan less_plan cost middle less tree counts number node here forced barred count driver order forcing barring one two
     s next same room p c pair pf pb lm ll kept rf rb parf parb df db pricef priceb =
-    let first = rf (forces driver order ∷ path_of tree number) pf in
-    let second = rb (bars driver order ∷ path_of tree number) pb in record {
+    let first = left forced (forces driver order) middle forcing one pf rf in
+    let second = left barred (bars driver order) less barring two pb rb in record {
       runs = s.runs ++ first.0 ∷ second.0 ∷ [];
       kept = kept;
       growing = branching_grows case limits cost less tree s.runs number node driver order forcing barring first.0 second.0 s.growing (omega arith) chosen parf parb df db
@@ -112,6 +113,19 @@ branch-searching case limits plan less_plan cost middle less tree counts number 
   where
     is_node : IsNode tree number node
     is_node = subst (λ (x : Node). IsNode tree number x) same next.is_node
+
+    -- what the rounds of a child leave
+    left : (start : NodeStart) (decision : Decision) (reached : ℕ) (child : Node) (leaves : List ℕ) → IsStartUnder case.week tree number decision start →
+        HasRan case limits reached start child leaves →
+        (rounds : List Round) × IsRanNode case limits reached (decision ∷ path_of tree number) node.bound node.prices child rounds × AreCounts case.week rounds leaves
+    left start decision reached child leaves under ran =
+        let run = ran (decision ∷ path_of tree number) under.pairs in
+        let parent = under.parent node is_node in (
+          run.0,
+          subst (λ (x : ℕ). IsRanNode case limits reached (decision ∷ path_of tree number) x node.prices child run.0) parent.0
+              (subst (λ (x : Prices). IsRanNode case limits reached (decision ∷ path_of tree number) start.bound x child run.0) parent.1 run.1),
+          run.2,
+        )
 
     turned_all : AreTurned tree (branched_at tree number cost node forcing barring) number cost node forcing barring
     turned_all = are_turned tree number cost node forcing barring is_node

@@ -39,9 +39,9 @@ label-clash s e p = cc
 -- where the state is not Proved, the bound is that of a leaf, and below the cost
 unproved : (case : Case) (limits : Limits) (outcome : Outcome) → IsRight case limits outcome → outcome.state ≢ Proved → outcome.bound ≤ outcome.cost
 unproved case limits outcome r n =
-    let leaf = r.bound_at n in
-    let found = get-below r.rounds (pred leaf.0) (omega (arith, slice_get-lt outcome.tree (pred leaf.0) leaf.1 leaf.2.1, r.all_runs)) in
-    let all = r.runs leaf.0 leaf.1 found.0 leaf.2 found.1 in
+    let leaf = r.bound.attained n in
+    let found = get-below r.runs (pred leaf.0) (omega (arith, slice_get-lt outcome.tree (pred leaf.0) leaf.1 leaf.2.1, r.tree.all_runs)) in
+    let all = r.tree.each leaf.0 leaf.1 found.0 leaf.2 found.1 in
     by_state all.2 leaf.3 leaf.4
   where
     by_state : {k : ℕ} {node : Node} {run : List Round} → IsState case.week outcome.cost outcome.tree k node run →
@@ -80,13 +80,13 @@ RunOf case limits outcome k node = (rounds : List Round) × HasRun case limits o
 run-of : (case : Case) (limits : Limits) (outcome : Outcome) → IsRight case limits outcome → (k : ℕ) (node : Node) →
     IsNode outcome.tree k node → RunOf case limits outcome k node
 run-of case limits outcome r k node is =
-    let found = get-below r.rounds (pred k) (omega (arith, slice_get-lt outcome.tree (pred k) node is.1, r.all_runs)) in
-    let all = r.runs k node found.0 is found.1 in (found.0, all.0, all.2)
+    let found = get-below r.runs (pred k) (omega (arith, slice_get-lt outcome.tree (pred k) node is.1, r.tree.all_runs)) in
+    let all = r.tree.each k node found.0 is found.1 in (found.0, all.0, all.2)
 
 -- a node's parent, where it has one
 parent-of : (case : Case) (limits : Limits) (outcome : Outcome) → IsRight case limits outcome → (k : ℕ) (node : Node) → 1 < k →
     IsNode outcome.tree k node → (parent : Node) × IsNode outcome.tree node.parent parent × DecidesFree (path_of outcome.tree node.parent) node.decision
-parent-of case limits outcome r k node l is = tree-parent case.week outcome.tree r.tree k node l is
+parent-of case limits outcome r k node l is = tree-parent case.week outcome.tree r.tree.shape k node l is
 
 abbrev Holds : Case → Outcome → Plan → ℕ → Node → Type 0
 Holds case outcome plan k node =
@@ -102,32 +102,32 @@ holds case limits outcome plan r lawful (suc fuel) k node l is =
     mine : RunOf case limits outcome k node
     mine = run-of case limits outcome r k node is
 
-    from : IsPrices case.week mine.1.before → (InsideAt case outcome.tree plan k → mine.1.first ≤ cost_of_plan case plan) →
+    from : IsPrices case.week mine.1.start.prices → (InsideAt case outcome.tree plan k → mine.1.start.bound ≤ cost_of_plan case plan) →
         Holds case outcome plan k node
     from p f = (
-      kept-prices _ case _ _ _ _ _ _ _ mine.0 mine.1.run p,
-      λ inside. bound-below _ case _ _ _ _ _ _ _ mine.0 plan mine.1.run p (f inside) lawful (inside mine.1.pairs mine.1.are_pairs),
+      kept-prices _ case _ _ _ _ _ mine.0 mine.1.run p,
+      λ inside. bound-below _ case _ _ _ _ _ mine.0 plan mine.1.run p (f inside) lawful (inside mine.1.start.pairs mine.1.begins.pairs),
     )
 
     by_root : (k ≡ 1) ⊎ (1 < k) → ((p : ℕ) (n : Node) → p < fuel → IsNode outcome.tree p n → Holds case outcome plan p n) →
         Holds case outcome plan k node
     by_root (inl e) more =
         let at : IsNode outcome.tree 1 node = subst (λ (x : ℕ). IsNode outcome.tree x node) e is in
-        let begin = mine.1.begins.root (r.tree.root node at).0 in
-        from (start-prices case.week mine.1.before begin.1) (λ inside. omega (arith, begin.0))
+        let begin = mine.1.begins.root (r.tree.shape.root node at).0 in
+        from (start-prices case.week mine.1.start.prices begin.1) (λ inside. omega (arith, begin.0))
     by_root (inr s) more =
         let parent = parent-of case limits outcome r k node s is in
-        let range = r.tree.others k node s is in
+        let range = r.tree.shape.others k node s is in
         let before = more node.parent parent.0 (omega arith) parent.1 in
         let begin = mine.1.begins.child parent.0 parent.1 in
         from (subst (λ (x : Prices). IsPrices case.week x) (sym begin.1) before.0)
-        (λ inside. let low = before.1 (inside-parent case outcome.tree plan k node mine.1.pairs is range.1 parent.2 mine.1.are_pairs lawful inside) in
+        (λ inside. let low = before.1 (inside-parent case outcome.tree plan k node mine.1.start.pairs is range.1 parent.2 mine.1.begins.pairs lawful inside) in
         omega (arith, begin.0))
 
 -- the bound of a right outcome is at most its cost
 bound-cost : (case : Case) (limits : Limits) (outcome : Outcome) → IsRight case limits outcome → (s : State) → outcome.state ≡ s →
     outcome.bound ≤ outcome.cost
-bound-cost case limits outcome r Proved e = omega (arith, r.proved e)
+bound-cost case limits outcome r Proved e = omega (arith, r.bound.proved e)
 bound-cost case limits outcome r OpenLabels e = unproved case limits outcome r (label-clash outcome.state e)
 bound-cost case limits outcome r OpenNodes e = unproved case limits outcome r (state-clash outcome.state e)
 
@@ -139,7 +139,7 @@ root-inside case limits outcome plan r lawful node is pairs p k duty e = record 
 }
   where
     root : (node.parent ≡ 0) × (node.decision ≡ Root)
-    root = r.tree.root node is
+    root = r.tree.shape.root node is
 
     path : path_of outcome.tree 1 ≡ Root ∷ []
     path = path-root outcome.tree node is root
@@ -163,14 +163,14 @@ descend case limits outcome plan r lawful (suc fuel) k node l is inside =
     low = (holds case limits outcome plan r lawful (suc k) k node (omega arith) is).1 inside
 
     open_leaf : (node.state ≡ Open) ⊎ (node.state ≡ Spent) → outcome.state ≢ Proved → outcome.bound ≤ cost_of_plan case plan
-    open_leaf e n = omega (arith, r.bound n k node is e, low)
+    open_leaf e n = omega (arith, r.bound.least n k node is e, low)
 
     open_state : HasLeaf Open outcome.tree → outcome.state ≢ Proved
-    open_state leaf = state-clash outcome.state (r.open_nodes.1 leaf)
+    open_state leaf = state-clash outcome.state (r.state.open_nodes.1 leaf)
 
     spent_state : node.state ≡ Spent → outcome.state ≢ Proved
     spent_state e p =
-        label-clash outcome.state (r.open_labels.1 ((λ leaf. open_state leaf p), (k, node, is, e))) p
+        label-clash outcome.state (r.state.open_labels.1 ((λ leaf. open_state leaf p), (k, node, is, e))) p
 
     at_child : (c : ℕ) (child : Node) → IsNode outcome.tree c child → child.parent ≡ k → k < c
     at_child c child there e = by_root (root-or-later c there.0)
@@ -178,8 +178,8 @@ descend case limits outcome plan r lawful (suc fuel) k node l is inside =
         by_root : (c ≡ 1) ⊎ (1 < c) → k < c
         by_root (inl one) =
             let at : IsNode outcome.tree 1 child = subst (λ (x : ℕ). IsNode outcome.tree x child) one there in
-            absurd (omega (arith, (r.tree.root child at).0, is.0))
-        by_root (inr s) = omega (arith, r.tree.others c child s there)
+            absurd (omega (arith, (r.tree.shape.root child at).0, is.0))
+        by_root (inr s) = omega (arith, r.tree.shape.others c child s there)
 
     -- the pairs of a child, by its decision
     child-pairs : (c : ℕ) (child : Node) (d : Decision) (pairs : Pairs) (there : IsNode outcome.tree c child) → child.parent ≡ k → child.decision ≡ d →
@@ -197,34 +197,34 @@ descend case limits outcome plan r lawful (suc fuel) k node l is inside =
     by_state Closed e more = omega (arith, (mine.2.closed e).1, low, bound-cost case limits outcome r outcome.state refl)
     by_state Empty e more =
         let last = mine.2.empty e in
-        let none = some-none _ case mine.1.pairs last.0.prices last.0.answers (mine.1.run.each _ last.0 last.1) last.2 in
+        let none = some-none _ case mine.1.start.pairs last.0.prices last.0.answers (mine.1.run.each _ last.0 last.1) last.2 in
         let at : none.0 < length plan.duties = omega (arith, slice_get-lt last.0.answers none.0 _ none.1, (mine.1.run.each _ last.0 last.1).drivers, lawful.duties) in
         let duty = get-below plan.duties none.0 at in
-        absurd (none.2 duty.0 (record { lawful = lawful.lawful none.0 duty.0 duty.1; inside = inside mine.1.pairs mine.1.are_pairs none.0 duty.0 duty.1 }))
+        absurd (none.2 duty.0 (record { lawful = lawful.lawful none.0 duty.0 duty.1; inside = inside mine.1.start.pairs mine.1.begins.pairs none.0 duty.0 duty.1 }))
     by_state Branched e more =
-        let h = r.tree.branched k node is e in
+        let h = r.tree.shape.branched k node is e in
         let f = run-of case limits outcome r h.child h.forcing h.is_forcing in
         let b = run-of case limits outcome r (h.child + 1) h.barring h.is_barring in
-        let pf = child-pairs h.child h.forcing _ f.1.pairs h.is_forcing h.parents.0 h.forces_it f.1.are_pairs in
-        let pb = child-pairs (h.child + 1) h.barring _ b.1.pairs h.is_barring h.parents.1 h.bars_it b.1.are_pairs in
-        let free : pair_at mine.1.pairs h.driver h.order ≡ Free = mine.1.are_pairs.each h.driver h.order h.in_week.0 h.in_week.1 ∙ h.free in
+        let pf = child-pairs h.child h.forcing _ f.1.start.pairs h.is_forcing h.parents.0 h.forces_it f.1.begins.pairs in
+        let pb = child-pairs (h.child + 1) h.barring _ b.1.start.pairs h.is_barring h.parents.1 h.bars_it b.1.begins.pairs in
+        let free : pair_at mine.1.start.pairs h.driver h.order ≡ Free = mine.1.begins.pairs.each h.driver h.order h.in_week.0 h.in_week.1 ∙ h.free in
         by_child h f b
-        (splits case (path_of outcome.tree k) h.driver h.order mine.1.pairs f.1.pairs b.1.pairs plan h.in_week.0 h.in_week.1 free
-        mine.1.are_pairs pf pb lawful (inside mine.1.pairs mine.1.are_pairs))
+        (splits case (path_of outcome.tree k) h.driver h.order mine.1.start.pairs f.1.start.pairs b.1.start.pairs plan h.in_week.0 h.in_week.1 free
+        mine.1.begins.pairs pf pb lawful (inside mine.1.start.pairs mine.1.begins.pairs))
       where
         by_child : (h : HasChildren case.week outcome.tree k) (f : RunOf case limits outcome h.child h.forcing) (b : RunOf case limits outcome (h.child + 1) h.barring) →
-            JustOne (IsPlanInside case.week f.1.pairs plan) (IsPlanInside case.week b.1.pairs plan) → outcome.bound ≤ cost_of_plan case plan
+            JustOne (IsPlanInside case.week f.1.start.pairs plan) (IsPlanInside case.week b.1.start.pairs plan) → outcome.bound ≤ cost_of_plan case plan
         by_child h f b (inl g) =
             more h.child h.forcing (omega (arith, at_child h.child h.forcing h.is_forcing h.parents.0)) h.is_forcing
-            (λ pairs p. same-inside case (path_of outcome.tree h.child) f.1.pairs pairs plan f.1.are_pairs p lawful g.0)
+            (λ pairs p. same-inside case (path_of outcome.tree h.child) f.1.start.pairs pairs plan f.1.begins.pairs p lawful g.0)
         by_child h f b (inr g) =
             more (h.child + 1) h.barring (omega (arith, at_child (h.child + 1) h.barring h.is_barring h.parents.1)) h.is_barring
-            (λ pairs p. same-inside case (path_of outcome.tree (h.child + 1)) b.1.pairs pairs plan b.1.are_pairs p lawful g.0)
+            (λ pairs p. same-inside case (path_of outcome.tree (h.child + 1)) b.1.start.pairs pairs plan b.1.begins.pairs p lawful g.0)
 
 pub no_cheaper : (case : Case) (limits : Limits) (outcome : Outcome) (plan : Plan) → IsRight case limits outcome → IsLawfulPlan case plan →
     outcome.bound ≤ cost_of_plan case plan
 no_cheaper case limits outcome plan r lawful =
-    let first = get-below outcome.tree 0 r.tree.some in
+    let first = get-below outcome.tree 0 r.tree.shape.some in
     let root : IsNode outcome.tree 1 first.0 = (omega arith, first.1) in
     descend case limits outcome plan r lawful (length outcome.tree) 1 first.0 (omega arith) root
     (root-inside case limits outcome plan r lawful first.0 root)

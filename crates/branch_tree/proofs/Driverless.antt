@@ -3,6 +3,7 @@ use Rattle.std.proofs.Common.{◌≡◌, ◌≢◌, ◌⊎◌, inl, inr, ℕ, ze
 use Rattle.std.proofs.lemmas.Bool.Decides.{nat_tests}
 use Rattle.std.proofs.lemmas.Int.{ints}
 use Rattle.duty_plan.specs.declared.plans.Case.{Case}
+use Rattle.duty_plan.specs.declared.nodes.NodeStart.{NodeStart}
 use Rattle.duty_plan.specs.declared.outcomes.Limits.{Limits}
 use Rattle.duty_plan.specs.declared.outcomes.Outcome.{Outcome}
 use Rattle.duty_plan.specs.declared.deciding.Pairs.{Pairs}
@@ -75,8 +76,12 @@ value case pairs none =
 abbrev pairs_of_case : Case → Pairs
 pairs_of_case case = record { orders = length case.week.orders; cells = [] }
 
+-- how the root begins
+abbrev root_start : Case → NodeStart
+root_start case = record { pairs = pairs_of_case case; bound = 0; prices = start_of_case case }
+
 best : (case : Case) → length case.week.drivers ≡ 0 →
-    IsBest case.week (pairs_of_case case) (round_of_case case ∷ []) 0 (cost_of_all case.week) (start_of_case case) (start_of_case case)
+    IsBest case.week (root_start case) (round_of_case case ∷ []) (cost_of_all case.week) (start_of_case case)
 best case none = record {
   above_first = omega arith;
   above = above;
@@ -92,7 +97,7 @@ best case none = record {
 
     by_cost : (n : ℕ) → cost_of_all case.week ≡ n →
         ((cost_of_all case.week ≡ 0) × (start_of_case case ≡ start_of_case case)) ⊎
-        IsFirstAt case.week (pairs_of_case case) (round_of_case case ∷ []) 0 (cost_of_all case.week) (start_of_case case)
+        IsFirstAt case.week (root_start case) (round_of_case case ∷ []) (cost_of_all case.week) (start_of_case case)
     by_cost zero e = inl (e, refl)
     by_cost (suc n) e = inr (record {
       number = 0;
@@ -106,7 +111,7 @@ best case none = record {
     })
 
 run : (case : Case) (limits : Limits) (m : ℕ) → IsLimits limits → length case.week.drivers ≡ 0 →
-    ArePricingRounds m case limits.rounds (pairs_of_case case) (cost_of_all case.week) 0 (cost_of_all case.week) (start_of_case case) (start_of_case case) (round_of_case case ∷ [])
+    ArePricingRounds m case limits.rounds (root_start case) (cost_of_all case.week) (cost_of_all case.week) (start_of_case case) (round_of_case case ∷ [])
 run case limits m l none = record {
   some = (omega arith, l.rounds.0);
   begins = begins;
@@ -132,11 +137,12 @@ has-run : (case : Case) (limits : Limits) → IsLimits limits → length case.we
     HasRun case limits (cost_of_all case.week) (closed_root (start_of_case case) (cost_of_all case.week) ∷ []) 1
     (closed_root (start_of_case case) (cost_of_all case.week)) (round_of_case case ∷ [])
 has-run case limits l none = record {
-  pairs = pairs_of_case case;
-  first = 0;
-  before = start_of_case case;
-  are_pairs = record { shape = record { orders = refl; cells = cells }; each = λ d o a b. absurd (omega arith) };
-  begins = record { root = λ e. (refl, refl); child = λ node is. absurd (omega (arith, is.0)) };
+  start = root_start case;
+  begins = record {
+    pairs = record { shape = record { orders = refl; cells = cells }; each = λ d o a b. absurd (omega arith) };
+    root = λ e. (refl, refl);
+    child = λ node is. absurd (omega (arith, is.0));
+  };
   run = run case limits _ l none;
 }
   where

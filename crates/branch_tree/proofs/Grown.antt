@@ -36,23 +36,20 @@ spent-full run s e =
 
 pub grown_is_right : GrownIsRight
 grown_is_right case limits plan cost tree runs kept g grown = record {
-  lawful = kept.lawful;
-  cost = kept.costs;
-  cheap = kept.cheap;
-  few = omega (arith, g.few, size);
-  tree = shape;
-  rounds = runs;
-  all_runs = g.all_runs ∙ sym size;
-  runs = each;
-  seen = seen;
-  best_first = best_first;
-  picks = picks;
-  open_nodes = (λ e. open_leaf (open-there end (state-open end e)), λ leaf. open-state end (open-has end (pred leaf.0) leaf.1 leaf.2.1 leaf.3));
-  full = λ e. full (open_leaf (open-there end (state-open end e))) grown;
-  open_labels = (labels, λ h. labels_back h.0 h.1 (has_open end) refl);
-  proved = λ e. least-none cost end (state-proved end e);
-  bound = λ n k node is u. least-below cost end (pred k) node is.1 (unsettled-is node.state u);
-  bound_at = λ n. bound_at (unsettled-there end (unproved-some end n)) (least-from cost end);
+  plan = kept;
+  runs = runs;
+  tree = record { few = omega (arith, g.few, size); shape = shape; all_runs = g.all_runs ∙ sym size; each = each };
+  branching = record { seen = seen; best_first = best_first; picks = picks };
+  state = record {
+    open_nodes = (λ e. open_leaf (open-there end (state-open end e)), λ leaf. open-state end (open-has end (pred leaf.0) leaf.1 leaf.2.1 leaf.3));
+    full = λ e. full (open_leaf (open-there end (state-open end e))) grown;
+    open_labels = (labels, λ h. labels_back h.0 h.1 (has_open end) refl);
+  };
+  bound = record {
+    proved = λ e. least-none cost end (state-proved end e);
+    least = λ n k node is u. least-below cost end (pred k) node is.1 (unsettled-is node.state u);
+    attained = λ n. bound_at (unsettled-there end (unproved-some end n)) (least-from cost end);
+  };
 }
   where
     end : List Node
@@ -133,16 +130,16 @@ grown_is_right case limits plan cost tree runs kept g grown = record {
     seen : HasIncumbentCosts case.week cost (map (settled cost) tree)
     seen = record {
       unbranched = λ k x is n. let b = back k x is in
-          b.2.seen ∙ g.seen.unbranched k b.0 b.1 (λ e. n (stays-branched cost b.0 x b.2 e));
+          b.2.seen ∙ g.branching.seen.unbranched k b.0 b.1 (λ e. n (stays-branched cost b.0 x b.2 e));
       branched = λ k x is e. let b = back k x is in
-          let r = g.seen.branched k b.0 b.1 (was-branched cost b.0 x b.2 e) in
+          let r = g.branching.seen.branched k b.0 b.1 (was-branched cost b.0 x b.2 e) in
           (omega (arith, r.0, b.2.seen, b.2.like.bound), omega (arith, r.1, b.2.seen), omega (arith, r.2, b.2.seen));
       falls = λ j k one two a b l is at p q.
           let x = back j one is in
           let y = back k two at in
           let u = back x.0.parent a (at_parent x.0 one a x.2.like p) in
           let v = back y.0.parent b (at_parent y.0 two b y.2.like q) in
-          omega (arith, g.seen.falls j k x.0 y.0 u.0 v.0 l x.1 y.1 u.1 v.1, u.2.seen, v.2.seen);
+          omega (arith, g.branching.seen.falls j k x.0 y.0 u.0 v.0 l x.1 y.1 u.1 v.1, u.2.seen, v.2.seen);
     }
 
     best_first : IsBestFirst case.week (map (settled cost) tree)
@@ -150,7 +147,7 @@ grown_is_right case limits plan cost tree runs kept g grown = record {
         let b = back k x is in
         let f = back child forced at in
         let y = back j other c.is_node in
-        turn b.0 y.0 b.2.like y.2.like (g.best_first k child b.0 f.0 y.0 j b.1 f.1 (sym f.2.like.parent ∙ p) d o (sym f.2.like.decision ∙ e) (candidate b.0 y.0 b.2 y.1 y.2))
+        turn b.0 y.0 b.2.like y.2.like (g.branching.best_first k child b.0 f.0 y.0 j b.1 f.1 (sym f.2.like.parent ∙ p) d o (sym f.2.like.decision ∙ e) (candidate b.0 y.0 b.2 y.1 y.2))
       where
         turn : (node old : Node) → IsLike node x → IsLike old other → (node.bound < old.bound) ⊎ ((node.bound ≡ old.bound) × (k ≤ j)) →
             (x.bound < other.bound) ⊎ ((x.bound ≡ other.bound) × (k ≤ j))
@@ -174,7 +171,7 @@ grown_is_right case limits plan cost tree runs kept g grown = record {
         let low : b.0.parent < child = tree-earlier case.week tree g.shape child b.0 b.1 in
         let is_k : b.0.parent ≡ k = sym b.2.like.parent ∙ p in
         pick-like case.week tree (map (settled cost) tree) k run d o (path k (omega (arith, node-below tree child b.0 b.1)))
-        (g.picks k child d o run b.0 h b.1 is_k (sym b.2.like.decision ∙ e))
+        (g.branching.picks k child d o run b.0 h b.1 is_k (sym b.2.like.decision ∙ e))
 
     open_leaf : (a : IsAmong is_open (map (settled cost) tree)) → HasLeaf Open (map (settled cost) tree)
     open_leaf a = (suc a.place, a.node, (omega arith, a.there), is-open a.node.state a.passes)

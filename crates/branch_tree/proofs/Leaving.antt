@@ -7,6 +7,7 @@ use Rattle.duty_plan.specs.declared.duties.Duty.{Duty}
 use Rattle.duty_plan.specs.declared.outcomes.Limits.{Limits}
 use Rattle.duty_plan.specs.declared.nodes.Decision.{Decision}
 use Rattle.duty_plan.specs.declared.nodes.Node.{Node}
+use Rattle.duty_plan.specs.declared.nodes.NodeStart.{NodeStart}
 use Rattle.duty_plan.specs.declared.nodes.NodeState.{NodeState}
 use Rattle.duty_plan.specs.declared.nodes.NodeState.TheVariants.{Branched, Closed, Empty, Open, Spent}
 use Rattle.duty_plan.specs.declared.deciding.Pair.TheVariants.{Free}
@@ -43,17 +44,17 @@ whole-none (NoDuty ∷ rest) h = cc
 whole-none (spends s ∷ rest) h = cc
 
 -- a run with this last round leaves a leaf of that state
-ran : (case : Case) (limits : Limits) (cost : ℕ) (path : List Decision) (pairs : Pairs) (first : ℕ) (before : Prices) (node : Node) (rounds : List Round) (last : Round)
-    (decided : Bool) → ArePairsOf case.week path pairs →
-    ArePricingRounds (chunks_for limits.labels) case limits.rounds pairs cost first node.bound before node.prices rounds → BeatsDuties case cost rounds →
+ran : (case : Case) (limits : Limits) (cost : ℕ) (path : List Decision) (start : NodeStart) (node : Node) (rounds : List Round) (last : Round)
+    (decided : Bool) → ArePairsOf case.week path start.pairs →
+    ArePricingRounds (chunks_for limits.labels) case limits.rounds start cost node.bound node.prices rounds → BeatsDuties case cost rounds →
     slice_get rounds (pred (length rounds)) ≡ Some last → node.state ≡ leaf_state (has_none last.answers) (leb cost node.bound) decided →
-    (decided ≡ true → IsDecided case.week pairs) → (decided ≡ false → HasFreeIn case.week pairs) →
-    (decided ≡ true → is_whole last.answers ≡ true → cost ≤ node.bound) → node.seen ≡ 0 → IsRanNode case limits cost path first before node rounds
-ran case limits cost path pairs first before node rounds last decided p run beats at state shut free closes unseen =
+    (decided ≡ true → IsDecided case.week start.pairs) → (decided ≡ false → HasFreeIn case.week start.pairs) →
+    (decided ≡ true → is_whole last.answers ≡ true → cost ≤ node.bound) → node.seen ≡ 0 → IsRanNode case limits cost path start.bound start.prices node rounds
+ran case limits cost path start node rounds last decided p run beats at state shut free closes unseen =
     by_tests (has_none last.answers) refl (leb cost node.bound) refl decided refl
   where
-    made : IsHeld case.week cost path node rounds → node.state ≢ Branched → IsRanNode case limits cost path first before node rounds
-    made held leaf = record { pairs = pairs; are_pairs = p; run = run; beats = beats; held = held; leaf = leaf; unseen = unseen }
+    made : IsHeld case.week cost path node rounds → node.state ≢ Branched → IsRanNode case limits cost path start.bound start.prices node rounds
+    made held leaf = record { pairs = start.pairs; are_pairs = p; run = run; beats = beats; held = held; leaf = leaf; unseen = unseen }
 
     full : has_none last.answers ≡ false → EndsEmpty rounds → ⊥
     full n ends =
@@ -63,7 +64,7 @@ ran case limits cost path pairs first before node rounds last decided p run beat
         let h = ends.2 in cc
 
     by_tests : (n : Bool) → has_none last.answers ≡ n → (c : Bool) → leb cost node.bound ≡ c → (d : Bool) → decided ≡ d →
-        IsRanNode case limits cost path first before node rounds
+        IsRanNode case limits cost path start.bound start.prices node rounds
     by_tests true en c ec d ed =
         let s : node.state ≡ Empty = state ∙ rw en refl in
         made (record {
@@ -182,25 +183,25 @@ counts-part week rounds last counts part c = record {
     older o u (inl g) = (u.0, u.1, g.1, u.3, (λ j other s h w. u.4 j other s (there j other h) w), u.5)
     older o u (inr g) = let w = u.3 in let same = ap (λ (x : Round). is_whole x.answers) g.1 in absurd cc
 
-pub begin : (case : Case) (limits : Limits) (pairs : Pairs) (first : ℕ) (before : Prices) (cost : ℕ) (counts : List ℕ) → length counts ≡ length case.week.orders →
-    ((o : ℕ) → o < length case.week.orders → get_or counts o 0 ≡ 1) → IsUnderway case limits pairs first before 0 cost first before before counts
-begin case limits pairs first before cost counts e ones = record {
+pub begin : (case : Case) (limits : Limits) (start : NodeStart) (cost : ℕ) (counts : List ℕ) → length counts ≡ length case.week.orders →
+    ((o : ℕ) → o < length case.week.orders → get_or counts o 0 ≡ 1) → IsUnderway case limits start 0 cost start.bound start.prices start.prices counts
+begin case limits start cost counts e ones = record {
   rounds = [];
-  running = run_begins (chunks_for limits.labels) case pairs first before;
+  running = run_begins (chunks_for limits.labels) case start;
   beats = λ k driver round value duty h w i. cc;
   number = refl;
   counted = counts-begin case.week counts e ones;
 }
 
 -- a whole round, and on to the next one
-pub go-on : (case : Case) (limits : Limits) (pairs : Pairs) (first : ℕ) (before : Prices) (k cost less bound raised : ℕ) (kept held now next : Prices) (answers : List Priced) (before_counts counts : List ℕ) →
-    IsUnderway case limits pairs first before k cost bound kept now before_counts → less ≤ cost → IsRound (chunks_for limits.labels) case pairs now answers →
-    is_whole answers ≡ true → BeatsAnswers case less answers → IsRaised (lagrangian case.week pairs now (values_of answers)) bound raised now kept held →
+pub go-on : (case : Case) (limits : Limits) (start : NodeStart) (k cost less bound raised : ℕ) (kept held now next : Prices) (answers : List Priced) (before_counts counts : List ℕ) →
+    IsUnderway case limits start k cost bound kept now before_counts → less ≤ cost → IsRound (chunks_for limits.labels) case start.pairs now answers →
+    is_whole answers ≡ true → BeatsAnswers case less answers → IsRaised (lagrangian case.week start.pairs now (values_of answers)) bound raised now kept held →
     AreNextPrices case.week k (λ order. carriers order answers) now next → length counts ≡ length case.week.orders →
-    ((o : ℕ) → o < length case.week.orders → get_or counts o 0 ≡ carriers o answers) → IsUnderway case limits pairs first before (k + 1) less raised held next counts
-go-on case limits pairs first before k cost less bound raised kept held now next answers before_counts counts u low is w beats up moved e at = record {
+    ((o : ℕ) → o < length case.week.orders → get_or counts o 0 ≡ carriers o answers) → IsUnderway case limits start (k + 1) less raised held next counts
+go-on case limits start k cost less bound raised kept held now next answers before_counts counts u low is w beats up moved e at = record {
   rounds = u.rounds ++ record { prices = now; answers = answers } ∷ [];
-  running = round_adds (chunks_for limits.labels) case pairs first bound raised before kept held now next u.rounds answers u.running is w up
+  running = round_adds (chunks_for limits.labels) case start bound raised kept held now next u.rounds answers u.running is w up
       (subst (λ (n : ℕ). AreNextPrices case.week n (λ order. carriers order answers) now next) (sym u.number) moved);
   beats = beats-more case less u.rounds now answers (beats-lasts case cost less u.rounds low u.beats) beats;
   number = omega (arith, one-more u.rounds (record { prices = now; answers = answers }), u.number);
@@ -208,39 +209,39 @@ go-on case limits pairs first before k cost less bound raised kept held now next
 }
 
 -- a round that isn't whole leaves the leaf
-pub leave-part : (case : Case) (limits : Limits) (pairs : Pairs) (first : ℕ) (before : Prices) (k cost bound : ℕ) (kept now : Prices) (answers : List Priced) (node : Node)
-    (decided : Bool) (counts : List ℕ) → IsUnderway case limits pairs first before k cost bound kept now counts → IsRound (chunks_for limits.labels) case pairs now answers →
+pub leave-part : (case : Case) (limits : Limits) (start : NodeStart) (k cost bound : ℕ) (kept now : Prices) (answers : List Priced) (node : Node)
+    (decided : Bool) (counts : List ℕ) → IsUnderway case limits start k cost bound kept now counts → IsRound (chunks_for limits.labels) case start.pairs now answers →
     is_whole answers ≡ false → k < limits.rounds → node.bound ≡ bound → node.prices ≡ kept →
-    node.state ≡ leaf_state (has_none answers) (leb cost node.bound) decided → node.seen ≡ 0 → (decided ≡ true → IsDecided case.week pairs) →
-    (decided ≡ false → HasFreeIn case.week pairs) → HasRan case limits cost pairs first before node counts
-leave-part case limits pairs first before k cost bound kept now answers node decided counts u is part few eb ep es unseen shut free path p =
+    node.state ≡ leaf_state (has_none answers) (leb cost node.bound) decided → node.seen ≡ 0 → (decided ≡ true → IsDecided case.week start.pairs) →
+    (decided ≡ false → HasFreeIn case.week start.pairs) → HasRan case limits cost start node counts
+leave-part case limits start k cost bound kept now answers node decided counts u is part few eb ep es unseen shut free path p =
     let last : Round = record { prices = now; answers = answers } in
-    let run = part_ends (chunks_for limits.labels) case limits.rounds pairs cost first bound before kept now u.rounds answers u.running is part (omega (arith, u.number)) in (
+    let run = part_ends (chunks_for limits.labels) case limits.rounds start cost bound kept now u.rounds answers u.running is part (omega (arith, u.number)) in (
       u.rounds ++ last ∷ [],
-      ran case limits cost path pairs first before node (u.rounds ++ last ∷ []) last decided p
-          (subst (λ (x : ℕ). ArePricingRounds (chunks_for limits.labels) case limits.rounds pairs cost first x before node.prices (u.rounds ++ last ∷ [])) (sym eb)
-          (subst (λ (x : Prices). ArePricingRounds (chunks_for limits.labels) case limits.rounds pairs cost first bound before x (u.rounds ++ last ∷ [])) (sym ep) run))
+      ran case limits cost path start node (u.rounds ++ last ∷ []) last decided p
+          (subst (λ (x : ℕ). ArePricingRounds (chunks_for limits.labels) case limits.rounds start cost x node.prices (u.rounds ++ last ∷ [])) (sym eb)
+          (subst (λ (x : Prices). ArePricingRounds (chunks_for limits.labels) case limits.rounds start cost bound x (u.rounds ++ last ∷ [])) (sym ep) run))
           (beats-part case cost u.rounds now answers u.beats part) (last-at u.rounds last) es shut free (λ d w. cc) unseen,
       counts-part case.week u.rounds last counts part u.counted,
     )
 
 -- a whole round leaves the leaf, where it is the last, or all is decided, or the bound has reached the cost
-pub leave-whole : (case : Case) (limits : Limits) (pairs : Pairs) (first : ℕ) (before : Prices) (k cost less bound raised : ℕ) (kept held now : Prices) (answers : List Priced)
-    (node : Node) (decided : Bool) (before_counts counts : List ℕ) → IsUnderway case limits pairs first before k cost bound kept now before_counts → less ≤ cost →
-    IsRound (chunks_for limits.labels) case pairs now answers → is_whole answers ≡ true → IsTaken case pairs now answers less → ForcesOnce case.week pairs →
-    IsRaised (lagrangian case.week pairs now (values_of answers)) bound raised now kept held → k < limits.rounds →
+pub leave-whole : (case : Case) (limits : Limits) (start : NodeStart) (k cost less bound raised : ℕ) (kept held now : Prices) (answers : List Priced)
+    (node : Node) (decided : Bool) (before_counts counts : List ℕ) → IsUnderway case limits start k cost bound kept now before_counts → less ≤ cost →
+    IsRound (chunks_for limits.labels) case start.pairs now answers → is_whole answers ≡ true → IsTaken case start.pairs now answers less → ForcesOnce case.week start.pairs →
+    IsRaised (lagrangian case.week start.pairs now (values_of answers)) bound raised now kept held → k < limits.rounds →
     (k + 1 ≡ limits.rounds) ⊎ ((decided ≡ true) ⊎ (less ≤ raised)) → node.bound ≡ raised → node.prices ≡ held →
-    node.state ≡ leaf_state false (leb less node.bound) decided → node.seen ≡ 0 → (decided ≡ true → IsDecided case.week pairs) →
-    (decided ≡ false → HasFreeIn case.week pairs) → length counts ≡ length case.week.orders →
-    ((o : ℕ) → o < length case.week.orders → get_or counts o 0 ≡ carriers o answers) → HasRan case limits less pairs first before node counts
-leave-whole case limits pairs first before k cost less bound raised kept held now answers node decided before_counts counts u low is w taken once up few ended eb ep es unseen shut free e at path p =
+    node.state ≡ leaf_state false (leb less node.bound) decided → node.seen ≡ 0 → (decided ≡ true → IsDecided case.week start.pairs) →
+    (decided ≡ false → HasFreeIn case.week start.pairs) → length counts ≡ length case.week.orders →
+    ((o : ℕ) → o < length case.week.orders → get_or counts o 0 ≡ carriers o answers) → HasRan case limits less start node counts
+leave-whole case limits start k cost less bound raised kept held now answers node decided before_counts counts u low is w taken once up few ended eb ep es unseen shut free e at path p =
     let last : Round = record { prices = now; answers = answers } in
-    let run = whole_ends (chunks_for limits.labels) case limits.rounds pairs less first bound raised before kept held now u.rounds answers u.running is w up
+    let run = whole_ends (chunks_for limits.labels) case limits.rounds start less bound raised kept held now u.rounds answers u.running is w up
     (omega (arith, u.number)) (by_end ended) in (
       u.rounds ++ last ∷ [],
-      ran case limits less path pairs first before node (u.rounds ++ last ∷ []) last decided p
-          (subst (λ (x : ℕ). ArePricingRounds (chunks_for limits.labels) case limits.rounds pairs less first x before node.prices (u.rounds ++ last ∷ [])) (sym eb)
-          (subst (λ (x : Prices). ArePricingRounds (chunks_for limits.labels) case limits.rounds pairs less first raised before x (u.rounds ++ last ∷ [])) (sym ep) run))
+      ran case limits less path start node (u.rounds ++ last ∷ []) last decided p
+          (subst (λ (x : ℕ). ArePricingRounds (chunks_for limits.labels) case limits.rounds start less x node.prices (u.rounds ++ last ∷ [])) (sym eb)
+          (subst (λ (x : Prices). ArePricingRounds (chunks_for limits.labels) case limits.rounds start less raised x (u.rounds ++ last ∷ [])) (sym ep) run))
           (beats-more case less u.rounds now answers (beats-lasts case cost less u.rounds low u.beats) taken.beats) (last-at u.rounds last)
           (es ∙ ap (λ (b : Bool). leaf_state b (leb less node.bound) decided) (sym (whole-none answers w))) shut free
           (λ d whole. omega (arith, taken.decided (shut d) once, high, eb)) unseen,
@@ -248,15 +249,15 @@ leave-whole case limits pairs first before k cost less bound raised kept held no
     )
   where
     by_end : (k + 1 ≡ limits.rounds) ⊎ ((decided ≡ true) ⊎ (less ≤ raised)) →
-        (suc (length u.rounds) ≡ limits.rounds) ⊎ (IsDecided case.week pairs ⊎ (less ≤ raised))
+        (suc (length u.rounds) ≡ limits.rounds) ⊎ (IsDecided case.week start.pairs ⊎ (less ≤ raised))
     by_end (inl e) = inl (omega (arith, u.number))
     by_end (inr (inl d)) = inr (inl (shut d))
     by_end (inr (inr l)) = inr (inr l)
 
-    high : lagrangian case.week pairs now (values_of answers) ≤ raised
-    high = by_value (at-most (lagrangian case.week pairs now (values_of answers)) bound)
+    high : lagrangian case.week start.pairs now (values_of answers) ≤ raised
+    high = by_value (at-most (lagrangian case.week start.pairs now (values_of answers)) bound)
       where
-        by_value : (lagrangian case.week pairs now (values_of answers) ≤ bound) ⊎ (bound < lagrangian case.week pairs now (values_of answers)) →
-            lagrangian case.week pairs now (values_of answers) ≤ raised
+        by_value : (lagrangian case.week start.pairs now (values_of answers) ≤ bound) ⊎ (bound < lagrangian case.week start.pairs now (values_of answers)) →
+            lagrangian case.week start.pairs now (values_of answers) ≤ raised
         by_value (inl l) = omega (arith, (up.below l).0)
         by_value (inr l) = omega (arith, (up.above l).0)

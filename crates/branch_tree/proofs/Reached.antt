@@ -43,18 +43,18 @@ never-spent case limits pairs prices reach (inr fill) =
 
 no-spent : (case : Case) (limits : Limits) (outcome : Outcome) → IsRight case limits outcome → IsWithinReach case limits → HasLeaf Spent outcome.tree → ⊥
 no-spent case limits outcome right reach leaf =
-    let run = get-below right.rounds (pred leaf.0) (omega (arith, right.all_runs, leaf.2.0, slice_get-lt outcome.tree (pred leaf.0) leaf.1 leaf.2.1)) in
-    let all = right.runs leaf.0 leaf.1 run.0 leaf.2 run.1 in
+    let run = get-below right.runs (pred leaf.0) (omega (arith, right.tree.all_runs, leaf.2.0, slice_get-lt outcome.tree (pred leaf.0) leaf.1 leaf.2.1)) in
+    let all = right.tree.each leaf.0 leaf.1 run.0 leaf.2 run.1 in
     let ended = (all.2.spent leaf.3).1 in
     let answer = spent-there ended.0.answers ended.3 in
     let round = all.0.run.each (pred (length run.0)) ended.0 ended.1 in
-    never-spent case limits all.0.pairs ended.0.prices reach (round.each answer.0 (SpentAnswer answer.1) answer.2).0
+    never-spent case limits all.0.start.pairs ended.0.prices reach (round.each answer.0 (SpentAnswer answer.1) answer.2).0
 
 no-open : (case : Case) (limits : Limits) (outcome : Outcome) (weights : List ℕ) → IsRight case limits outcome → IsWithinReach case limits →
     AreWeights case.week outcome.tree weights → limits.nodes ≤ length outcome.tree + 1 → HasLeaf Open outcome.tree → ⊥
 no-open case limits outcome weights right reach a full leaf =
-    let run = get-below right.rounds (pred leaf.0) (omega (arith, right.all_runs, leaf.2.0, slice_get-lt outcome.tree (pred leaf.0) leaf.1 leaf.2.1)) in
-    let all = right.runs leaf.0 leaf.1 run.0 leaf.2 run.1 in
+    let run = get-below right.runs (pred leaf.0) (omega (arith, right.tree.all_runs, leaf.2.0, slice_get-lt outcome.tree (pred leaf.0) leaf.1 leaf.2.1)) in
+    let all = right.tree.each leaf.0 leaf.1 run.0 leaf.2 run.1 in
     let free = (all.2.open_leaf leaf.3).0 in
     let fit = two-fit case.week outcome.tree weights leaf.0 leaf.1 a leaf.2 (λ e. let z : Branched ≡ Open = sym e ∙ leaf.3 in cc) free in
     let nodes = reach.nodes in absurd (omega arith)
@@ -65,8 +65,8 @@ reach-proved case limits outcome weights right a reach = by_state outcome.state 
   where
     by_state : (s : State) → outcome.state ≡ s → outcome.state ≡ Proved
     by_state Proved e = e
-    by_state OpenNodes e = absurd (no-open case limits outcome weights right reach a (right.full e) (right.open_nodes.0 e))
-    by_state OpenLabels e = absurd (no-spent case limits outcome right reach (right.open_labels.0 e).1)
+    by_state OpenNodes e = absurd (no-open case limits outcome weights right reach a (right.state.full e) (right.state.open_nodes.0 e))
+    by_state OpenLabels e = absurd (no-spent case limits outcome right reach (right.state.open_labels.0 e).1)
 
 -- the state at either end
 pub reach-result : (case : Case) (limits : Limits) (plan : Plan) (cost : ℕ) (tree seen : List Node) (counts : List (List ℕ)) (result : Result Outcome Memory) →

@@ -3,6 +3,7 @@ use Rattle.std.proofs.Common.{◌≡◌, ◌≢◌, ◌⊎◌, inl, inr, ℕ, ze
 use Rattle.week_book.specs.declared.weeks.Week.{Week}
 use Rattle.duty_plan.specs.declared.plans.Case.{Case}
 use Rattle.duty_plan.specs.declared.deciding.Pairs.{Pairs}
+use Rattle.duty_plan.specs.declared.nodes.NodeStart.{NodeStart}
 use Rattle.duty_plan.specs.declared.pricing.Prices.{Prices}
 use Rattle.duty_plan.specs.declared.pricing.Priced.{Priced}
 use Rattle.duty_plan.specs.Values.{IsDecided}
@@ -12,7 +13,7 @@ use Rattle.price_master.proofs.Lookups.{get-before, get-after, at-most, split, E
 use Rattle.branch_tree.specs.Running.{ArePricingRoundsSoFar, IsRaised, RunBegins, RoundAdds, PartEnds, WholeEnds}
 
 pub run_begins : RunBegins
-run_begins m case pairs first before = record {
+run_begins m case start = record {
   begins = λ round h. cc;
   moves = λ k round next h i. cc;
   each = λ k round h. cc;
@@ -23,19 +24,19 @@ run_begins m case pairs first before = record {
 }
 
 -- the bound after one whole round more
-best-more : (m : ℕ) (case : Case) (pairs : Pairs) (first bound raised : ℕ) (before kept held now : Prices) (rounds : List Round) (last : Round) →
-    ArePricingRoundsSoFar m case pairs first bound before kept now rounds → last.prices ≡ now → is_whole last.answers ≡ true →
-    IsRaised (value_of_round case.week pairs last) bound raised now kept held → IsBest case.week pairs (rounds ++ last ∷ []) first raised before held
-best-more m case pairs first bound raised before kept held now rounds last r at whole is = by_value (at-most value bound)
+best-more : (m : ℕ) (case : Case) (start : NodeStart) (bound raised : ℕ) (kept held now : Prices) (rounds : List Round) (last : Round) →
+    ArePricingRoundsSoFar m case start bound kept now rounds → last.prices ≡ now → is_whole last.answers ≡ true →
+    IsRaised (value_of_round case.week start.pairs last) bound raised now kept held → IsBest case.week start (rounds ++ last ∷ []) raised held
+best-more m case start bound raised kept held now rounds last r at whole is = by_value (at-most value bound)
   where
     value : ℕ
-    value = value_of_round case.week pairs last
+    value = value_of_round case.week start.pairs last
 
     there : (k : ℕ) (round : Round) → slice_get rounds k ≡ Some round → slice_get (rounds ++ last ∷ []) k ≡ Some round
     there k round h = get-before rounds (last ∷ []) k (slice_get-lt rounds k round h) ∙ h
 
-    by_value : (value_of_round case.week pairs last ≤ bound) ⊎ (bound < value_of_round case.week pairs last) →
-        IsBest case.week pairs (rounds ++ last ∷ []) first raised before held
+    by_value : (value_of_round case.week start.pairs last ≤ bound) ⊎ (bound < value_of_round case.week start.pairs last) →
+        IsBest case.week start (rounds ++ last ∷ []) raised held
     by_value (inl l) =
         let same = is.below l in record {
           above_first = omega (arith, same.0, r.best.above_first);
@@ -44,12 +45,12 @@ best-more m case pairs first bound raised before kept held now rounds last r at 
         }
       where
         above : (k : ℕ) (round : Round) → slice_get (rounds ++ last ∷ []) k ≡ Some round → is_whole round.answers ≡ true →
-            EarlierOrLast rounds last k round → value_of_round case.week pairs round ≤ raised
+            EarlierOrLast rounds last k round → value_of_round case.week start.pairs round ≤ raised
         above k round h w (inl g) = omega (arith, (is.below l).0, r.best.above k round g.1 w)
-        above k round h w (inr g) = omega (arith, (is.below l).0, l, ap (value_of_round case.week pairs) g.1)
+        above k round h w (inr g) = omega (arith, (is.below l).0, l, ap (value_of_round case.week start.pairs) g.1)
 
-        from : ((bound ≡ first) × (kept ≡ before)) ⊎ IsFirstAt case.week pairs rounds first bound kept →
-            ((raised ≡ first) × (held ≡ before)) ⊎ IsFirstAt case.week pairs (rounds ++ last ∷ []) first raised held
+        from : ((bound ≡ start.bound) × (kept ≡ start.prices)) ⊎ IsFirstAt case.week start rounds bound kept →
+            ((raised ≡ start.bound) × (held ≡ start.prices)) ⊎ IsFirstAt case.week start (rounds ++ last ∷ []) raised held
         from (inl g) = inl ((is.below l).0 ∙ g.0, (is.below l).1 ∙ g.1)
         from (inr g) = inr (record {
           number = g.number;
@@ -82,29 +83,29 @@ best-more m case pairs first bound raised before kept held now rounds last r at 
         }
       where
         above : (k : ℕ) (round : Round) → slice_get (rounds ++ last ∷ []) k ≡ Some round → is_whole round.answers ≡ true →
-            EarlierOrLast rounds last k round → value_of_round case.week pairs round ≤ raised
+            EarlierOrLast rounds last k round → value_of_round case.week start.pairs round ≤ raised
         above k round h w (inl g) = omega (arith, (is.above l).0, l, r.best.above k round g.1 w)
-        above k round h w (inr g) = omega (arith, (is.above l).0, ap (value_of_round case.week pairs) g.1)
+        above k round h w (inr g) = omega (arith, (is.above l).0, ap (value_of_round case.week start.pairs) g.1)
 
 -- what one round more keeps, whole or not
-pub record IsLonger (m : ℕ) (case : Case) (pairs : Pairs) (before : Prices) (rounds : List Round) : Type 0 where
-  pub begins : (round : Round) → slice_get rounds 0 ≡ Some round → round.prices ≡ before
+pub record IsLonger (m : ℕ) (case : Case) (start : NodeStart) (rounds : List Round) : Type 0 where
+  pub begins : (round : Round) → slice_get rounds 0 ≡ Some round → round.prices ≡ start.prices
   pub moves : (k : ℕ) (round next : Round) → slice_get rounds k ≡ Some round → slice_get rounds (suc k) ≡ Some next →
       AreNextPrices case.week k (λ order. carriers order round.answers) round.prices next.prices
-  pub each : (k : ℕ) (round : Round) → slice_get rounds k ≡ Some round → IsRound m case pairs round.prices round.answers
+  pub each : (k : ℕ) (round : Round) → slice_get rounds k ≡ Some round → IsRound m case start.pairs round.prices round.answers
   pub whole : (k : ℕ) (round : Round) → suc k < length rounds → slice_get rounds k ≡ Some round → is_whole round.answers ≡ true
 
-longer : (m : ℕ) (case : Case) (pairs : Pairs) (first bound : ℕ) (before kept now : Prices) (rounds : List Round) (last : Round) →
-    ArePricingRoundsSoFar m case pairs first bound before kept now rounds → last.prices ≡ now → IsRound m case pairs last.prices last.answers →
-    IsLonger m case pairs before (rounds ++ last ∷ [])
-longer m case pairs first bound before kept now rounds last r at round_is = record {
+longer : (m : ℕ) (case : Case) (start : NodeStart) (bound : ℕ) (kept now : Prices) (rounds : List Round) (last : Round) →
+    ArePricingRoundsSoFar m case start bound kept now rounds → last.prices ≡ now → IsRound m case start.pairs last.prices last.answers →
+    IsLonger m case start (rounds ++ last ∷ [])
+longer m case start bound kept now rounds last r at round_is = record {
   begins = λ round h. begins round (split rounds last round 0 h);
   moves = λ k round next h i. moves k round next (split rounds last round k h) (split rounds last next (suc k) i);
   each = λ k round h. each k round (split rounds last round k h);
   whole = λ k round s h. whole k round (omega (arith, s, one-more rounds last)) (split rounds last round k h);
 }
   where
-    begins : (round : Round) → EarlierOrLast rounds last 0 round → round.prices ≡ before
+    begins : (round : Round) → EarlierOrLast rounds last 0 round → round.prices ≡ start.prices
     begins round (inl g) = r.begins round g.1
     begins round (inr g) = sym (ap (λ (x : Round). x.prices) g.1) ∙ (at ∙ r.now_first (sym g.0))
 
@@ -117,23 +118,23 @@ longer m case pairs first bound before kept now rounds last r at round_is = reco
     moves k round next (inr g) (inl h) = absurd (omega (arith, g.0, h.0))
     moves k round next (inr g) (inr h) = absurd (omega (arith, g.0, h.0))
 
-    each : (k : ℕ) (round : Round) → EarlierOrLast rounds last k round → IsRound m case pairs round.prices round.answers
+    each : (k : ℕ) (round : Round) → EarlierOrLast rounds last k round → IsRound m case start.pairs round.prices round.answers
     each k round (inl g) = r.each k round g.1
-    each k round (inr g) = subst (λ (x : Round). IsRound m case pairs x.prices x.answers) g.1 round_is
+    each k round (inr g) = subst (λ (x : Round). IsRound m case start.pairs x.prices x.answers) g.1 round_is
 
     whole : (k : ℕ) (round : Round) → k < length rounds → EarlierOrLast rounds last k round → is_whole round.answers ≡ true
     whole k round s (inl g) = r.whole k round g.1
     whole k round s (inr g) = absurd (omega (arith, g.0))
 
 pub round_adds : RoundAdds
-round_adds m case pairs first bound raised before kept held now next rounds answers r is w up moved =
+round_adds m case start bound raised kept held now next rounds answers r is w up moved =
     let last : Round = record { prices = now; answers = answers } in
-    let more = longer m case pairs first bound before kept now rounds last r refl is in record {
+    let more = longer m case start bound kept now rounds last r refl is in record {
       begins = more.begins;
       moves = more.moves;
       each = more.each;
       whole = λ k round h. whole k round (split rounds (record { prices = now; answers = answers }) round k h);
-      best = best-more m case pairs first bound raised before kept held now rounds last r refl w up;
+      best = best-more m case start bound raised kept held now rounds last r refl w up;
       now_first = λ e. absurd (omega (arith, e, one-more rounds last));
       now_next = λ k round e h. now_next k round e (split rounds (record { prices = now; answers = answers }) round k h);
     }
@@ -158,9 +159,9 @@ last-is rounds last round h =
     let here = last-there rounds last in cc
 
 pub part_ends : PartEnds
-part_ends m case most pairs cost first bound before kept now rounds answers r is part few =
+part_ends m case most start cost bound kept now rounds answers r is part few =
     let last : Round = record { prices = now; answers = answers } in
-    let more = longer m case pairs first bound before kept now rounds last r refl is in record {
+    let more = longer m case start bound kept now rounds last r refl is in record {
       some = (omega (arith, one-more rounds last), omega (arith, one-more rounds last));
       begins = more.begins;
       moves = more.moves;
@@ -180,12 +181,12 @@ part_ends m case most pairs cost first bound before kept now rounds answers r is
         let same = ap (λ (x : Round). is_whole x.answers) (last-is rounds (record { prices = now; answers = answers }) round h) in cc
 
     above : (k : ℕ) (round : Round) → is_whole round.answers ≡ true → EarlierOrLast rounds (record { prices = now; answers = answers }) k round →
-        value_of_round case.week pairs round ≤ bound
+        value_of_round case.week start.pairs round ≤ bound
     above k round w (inl g) = r.best.above k round g.1 w
     above k round w (inr g) = let same = ap (λ (x : Round). is_whole x.answers) g.1 in absurd cc
 
-    from : ((bound ≡ first) × (kept ≡ before)) ⊎ IsFirstAt case.week pairs rounds first bound kept →
-        ((bound ≡ first) × (kept ≡ before)) ⊎ IsFirstAt case.week pairs (rounds ++ record { prices = now; answers = answers } ∷ []) first bound kept
+    from : ((bound ≡ start.bound) × (kept ≡ start.prices)) ⊎ IsFirstAt case.week start rounds bound kept →
+        ((bound ≡ start.bound) × (kept ≡ start.prices)) ⊎ IsFirstAt case.week start (rounds ++ record { prices = now; answers = answers } ∷ []) bound kept
     from (inl g) = inl g
     from (inr g) = inr (record {
       number = g.number;
@@ -202,19 +203,19 @@ part_ends m case most pairs cost first bound before kept now rounds answers r is
     })
 
 pub whole_ends : WholeEnds
-whole_ends m case most pairs cost first bound raised before kept held now rounds answers r is w up few ended =
+whole_ends m case most start cost bound raised kept held now rounds answers r is w up few ended =
     let last : Round = record { prices = now; answers = answers } in
-    let more = longer m case pairs first bound before kept now rounds last r refl is in record {
+    let more = longer m case start bound kept now rounds last r refl is in record {
       some = (omega (arith, one-more rounds last), omega (arith, one-more rounds last));
       begins = more.begins;
       moves = more.moves;
       each = more.each;
       whole = more.whole;
       ends = λ round h whole. by_end ended;
-      best = best-more m case pairs first bound raised before kept held now rounds last r refl w up;
+      best = best-more m case start bound raised kept held now rounds last r refl w up;
     }
   where
-    by_end : (suc (length rounds) ≡ most) ⊎ (IsDecided case.week pairs ⊎ (cost ≤ raised)) →
-        (length (rounds ++ record { prices = now; answers = answers } ∷ []) ≡ most) ⊎ (IsDecided case.week pairs ⊎ (cost ≤ raised))
+    by_end : (suc (length rounds) ≡ most) ⊎ (IsDecided case.week start.pairs ⊎ (cost ≤ raised)) →
+        (length (rounds ++ record { prices = now; answers = answers } ∷ []) ≡ most) ⊎ (IsDecided case.week start.pairs ⊎ (cost ≤ raised))
     by_end (inl e) = inl (one-more rounds (record { prices = now; answers = answers }) ∙ e)
     by_end (inr e) = inr e

@@ -12,7 +12,7 @@ use Rattle.duty_plan.specs.LabelLists.{chunks_for}
 use Rattle.duty_plan.specs.Rounds.{Round, ArePricingRounds}
 use Rattle.duty_plan.specs.Nodes.{path_of, IsNode, IsTree, HasChildren, IsFreeAt, HasFree}
 use Rattle.duty_plan.specs.Branching.{IsBranchingPair, ViolatesCover}
-use Rattle.duty_plan.specs.Trees.{HasRun, Begins}
+use Rattle.duty_plan.specs.Trees.{HasRun}
 use Rattle.duty_plan.proofs.Lists.{slice_get-lt}
 use Rattle.price_master.proofs.Carried.{get-below}
 use Rattle.branch_tree.specs.Paths.{HasEarlierParents}
@@ -81,19 +81,17 @@ path-like week tree new t ext k l = paths-like tree new (tree-earlier week tree 
 pub run-like : (case : Case) (limits : Limits) (cost : ℕ) (tree new : List Node) (k : ℕ) (node other : Node) (run : List Round) → IsTree case.week tree →
     Extends tree new → IsNode tree k node → IsLike node other → HasRun case limits cost tree k node run → HasRun case limits cost new k other run
 run-like case limits cost tree new k node other run t ext is like r = record {
-  pairs = r.pairs;
-  first = r.first;
-  before = r.before;
-  are_pairs = subst (λ (ds : List Decision). ArePairsOf case.week ds r.pairs) (sym (path-like case.week tree new t ext k (node-below tree k node is))) r.are_pairs;
+  start = r.start;
   begins = record {
+    pairs = subst (λ (ds : List Decision). ArePairsOf case.week ds r.start.pairs) (sym (path-like case.week tree new t ext k (node-below tree k node is))) r.begins.pairs;
     root = λ e. r.begins.root (sym like.parent ∙ e);
     child = λ parent at. child parent at;
   };
-  run = subst (λ (x : ℕ). ArePricingRounds (chunks_for limits.labels) case limits.rounds r.pairs cost r.first x r.before other.prices run) (sym like.bound)
-      (subst (λ (x : Prices). ArePricingRounds (chunks_for limits.labels) case limits.rounds r.pairs cost r.first node.bound r.before x run) (sym like.prices) r.run);
+  run = subst (λ (x : ℕ). ArePricingRounds (chunks_for limits.labels) case limits.rounds r.start cost x other.prices run) (sym like.bound)
+      (subst (λ (x : Prices). ArePricingRounds (chunks_for limits.labels) case limits.rounds r.start cost node.bound x run) (sym like.prices) r.run);
 }
   where
-    child : (parent : Node) → IsNode new other.parent parent → (r.first ≡ parent.bound) × (r.before ≡ parent.prices)
+    child : (parent : Node) → IsNode new other.parent parent → (r.start.bound ≡ parent.bound) × (r.start.prices ≡ parent.prices)
     child parent at =
         let low : node.parent < k = tree-earlier case.week tree t k node is in
         let there : IsNode new node.parent parent = subst (λ (x : ℕ). IsNode new x parent) like.parent at in

@@ -22,13 +22,11 @@ use Rattle.duty_plan.specs.LabelLists.{chunks_for}
 use Rattle.duty_plan.specs.Rounds.{Round, ArePricingRounds}
 use Rattle.duty_plan.specs.Nodes.{path_of, IsNode, IsTree}
 use Rattle.duty_plan.specs.Branching.{IsBestFirst, HasIncumbentCosts, IsBranchingPair}
-use Rattle.duty_plan.specs.Trees.{HasRun, BeatsDuties, EndsEmpty, EndsSpent}
+use Rattle.duty_plan.specs.Trees.{HasRun, BeatsDuties, EndsEmpty, EndsSpent, IsBranchedByRule, IsPlanAtCost}
 
 -- the kept plan is lawful, costs so much, and no more than giving all orders away
-pub record IsKept (case : Case) (plan : Plan) (cost : ℕ) : Type 0 where
-  pub lawful : IsLawfulPlan case plan
-  pub costs : cost_of_plan case plan ≡ cost
-  pub cheap : cost ≤ cost_of_all case.week
+abbrev pub IsKept : Case → Plan → ℕ → Type 0
+IsKept case plan cost = IsPlanAtCost case plan cost
 
 -- some driver and order are Free on the path
 abbrev pub HasFreeOn : Week → List Decision → Type 0
@@ -47,7 +45,8 @@ pub record IsHeld (week : Week) (cost : ℕ) (path : List Decision) (node : Node
 pub record IsRanNode (case : Case) (limits : Limits) (cost : ℕ) (path : List Decision) (first : ℕ) (before : Prices) (node : Node) (rounds : List Round) : Type 0 where
   pub pairs : Pairs
   pub are_pairs : ArePairsOf case.week path pairs
-  pub run : ArePricingRounds (chunks_for limits.labels) case limits.rounds pairs cost first node.bound before node.prices rounds
+  pub run : ArePricingRounds (chunks_for limits.labels) case limits.rounds (record { pairs = pairs; bound = first; prices = before }) cost node.bound
+      node.prices rounds
   pub beats : BeatsDuties case cost rounds
   pub held : IsHeld case.week cost path node rounds
   pub leaf : node.state ≢ Branched
@@ -60,10 +59,7 @@ pub record IsGrowing (case : Case) (limits : Limits) (cost : ℕ) (tree : List N
   pub all_runs : length runs ≡ length tree
   pub each : (k : ℕ) (node : Node) (run : List Round) → IsNode tree k node → slice_get runs (pred k) ≡ Some run →
       HasRun case limits cost tree k node run × BeatsDuties case cost run × IsHeld case.week cost (path_of tree k) node run
-  pub seen : HasIncumbentCosts case.week cost tree
-  pub best_first : IsBestFirst case.week tree
-  pub picks : (k child d o : ℕ) (run : List Round) (forcing : Node) → slice_get runs (pred k) ≡ Some run → IsNode tree child forcing →
-      forcing.parent ≡ k → forcing.decision ≡ forces d o → IsBranchingPair case.week tree k run d o
+  pub branching : IsBranchedByRule case.week cost tree runs
 
 -- the node is branched while the kept plan costs so much
 abbrev pub turned : ℕ → Node → Node

@@ -8,6 +8,7 @@ use Rattle.duty_plan.specs.declared.deciding.Pair.TheVariants.{Free}
 use Rattle.duty_plan.specs.declared.deciding.Pairs.{Pairs}
 use Rattle.duty_plan.specs.declared.pricing.Prices.{Prices}
 use Rattle.duty_plan.specs.declared.nodes.Node.{Node}
+use Rattle.duty_plan.specs.declared.nodes.NodeStart.{NodeStart}
 use Rattle.duty_plan.specs.declared.nodes.Decision.{Decision}
 use Rattle.duty_plan.specs.declared.nodes.Decision.TheVariants.{Forced as forces, Barred as bars}
 use Rattle.duty_plan.specs.declared.outcomes.Limits.{Limits}
@@ -39,8 +40,8 @@ NodesForceOnce = (week : Week) (tree : List Node) (k : ℕ) (node : Node) (pairs
 
 -- a run towards a cost is one towards any smaller cost
 abbrev pub KeepsRuns : Type 0
-KeepsRuns = (m : ℕ) (case : Case) (most : ℕ) (pairs : Pairs) (cost less first bound : ℕ) (before kept : Prices) (rounds : List Round) →
-    less ≤ cost → ArePricingRounds m case most pairs cost first bound before kept rounds → ArePricingRounds m case most pairs less first bound before kept rounds
+KeepsRuns = (m : ℕ) (case : Case) (most : ℕ) (start : NodeStart) (cost less bound : ℕ) (kept : Prices) (rounds : List Round) →
+    less ≤ cost → ArePricingRounds m case most start cost bound kept rounds → ArePricingRounds m case most start less bound kept rounds
 
 -- no lawful plan costs less than the bound of a right outcome
 abbrev pub IsNoCheaper : Type 0

@@ -6,6 +6,7 @@ use Rattle.duty_plan.specs.declared.duties.Duty.{Duty}
 use Rattle.duty_plan.specs.declared.outcomes.Limits.{Limits}
 use Rattle.duty_plan.specs.declared.nodes.Decision.{Decision}
 use Rattle.duty_plan.specs.declared.nodes.Node.{Node}
+use Rattle.duty_plan.specs.declared.nodes.NodeStart.{NodeStart}
 use Rattle.duty_plan.specs.declared.nodes.NodeState.{NodeState}
 use Rattle.duty_plan.specs.declared.nodes.NodeState.TheVariants.{Branched, Closed, Empty, Open, Spent}
 use Rattle.duty_plan.specs.declared.deciding.Pair.TheVariants.{Free}
@@ -46,14 +47,14 @@ pub record AreCounts (week : Week) (rounds : List Round) (counts : List ℕ) : T
   pub other : (order : ℕ) → order < length week.orders → slice_index counts order ≢ 1 → ViolatesCover rounds order
 
 -- after k whole rounds
-pub record IsUnderway (case : Case) (limits : Limits) (pairs : Pairs) (first : ℕ) (before : Prices) (k cost bound : ℕ) (kept now : Prices) (counts : List ℕ) : Type 0 where
+pub record IsUnderway (case : Case) (limits : Limits) (start : NodeStart) (k cost bound : ℕ) (kept now : Prices) (counts : List ℕ) : Type 0 where
   pub rounds : List Round
-  pub running : ArePricingRoundsSoFar (chunks_for limits.labels) case pairs first bound before kept now rounds
+  pub running : ArePricingRoundsSoFar (chunks_for limits.labels) case start bound kept now rounds
   pub beats : BeatsDuties case cost rounds
   pub number : length rounds ≡ k
   pub counted : AreCounts case.week rounds counts
 
 -- the node is a leaf with a run, at the end of whatever path has these pairs
-abbrev pub HasRan : Case → Limits → ℕ → Pairs → ℕ → Prices → Node → List ℕ → Type 0
-HasRan case limits cost pairs first before node counts = (path : List Decision) → ArePairsOf case.week path pairs →
-    (rounds : List Round) × IsRanNode case limits cost path first before node rounds × AreCounts case.week rounds counts
+abbrev pub HasRan : Case → Limits → ℕ → NodeStart → Node → List ℕ → Type 0
+HasRan case limits cost start node counts = (path : List Decision) → ArePairsOf case.week path start.pairs →
+    (rounds : List Round) × IsRanNode case limits cost path start.bound start.prices node rounds × AreCounts case.week rounds counts

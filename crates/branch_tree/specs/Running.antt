@@ -3,6 +3,7 @@ use Rattle.std.specs.Prelude.{◌≡◌, ◌⊎◌, ℕ, suc, pred, ◌<◌, ◌
 use Rattle.week_book.specs.declared.weeks.Week.{Week}
 use Rattle.duty_plan.specs.declared.plans.Case.{Case}
 use Rattle.duty_plan.specs.declared.deciding.Pairs.{Pairs}
+use Rattle.duty_plan.specs.declared.nodes.NodeStart.{NodeStart}
 use Rattle.duty_plan.specs.declared.pricing.Prices.{Prices}
 use Rattle.duty_plan.specs.declared.pricing.Priced.{Priced}
 use Rattle.duty_plan.specs.Values.{IsDecided}
@@ -10,14 +11,14 @@ use Rattle.duty_plan.specs.Rounds.{Round, IsRound, ArePricingRounds, IsBest, Are
 
 -- whole rounds so far, from the bound `first` and the prices `before`, with the bound and the kept prices that they leave;
 -- `now` are the prices of the next round
-pub record ArePricingRoundsSoFar (m : ℕ) (case : Case) (pairs : Pairs) (first bound : ℕ) (before kept now : Prices) (rounds : List Round) : Type 0 where
-  pub begins : (round : Round) → slice_get rounds 0 ≡ Some round → round.prices ≡ before
+pub record ArePricingRoundsSoFar (m : ℕ) (case : Case) (start : NodeStart) (bound : ℕ) (kept now : Prices) (rounds : List Round) : Type 0 where
+  pub begins : (round : Round) → slice_get rounds 0 ≡ Some round → round.prices ≡ start.prices
   pub moves : (k : ℕ) (round next : Round) → slice_get rounds k ≡ Some round → slice_get rounds (suc k) ≡ Some next →
       AreNextPrices case.week k (λ order. carriers order round.answers) round.prices next.prices
-  pub each : (k : ℕ) (round : Round) → slice_get rounds k ≡ Some round → IsRound m case pairs round.prices round.answers
+  pub each : (k : ℕ) (round : Round) → slice_get rounds k ≡ Some round → IsRound m case start.pairs round.prices round.answers
   pub whole : (k : ℕ) (round : Round) → slice_get rounds k ≡ Some round → is_whole round.answers ≡ true
-  pub best : IsBest case.week pairs rounds first bound before kept
-  pub now_first : length rounds ≡ 0 → now ≡ before
+  pub best : IsBest case.week start rounds bound kept
+  pub now_first : length rounds ≡ 0 → now ≡ start.prices
   pub now_next : (k : ℕ) (round : Round) → suc k ≡ length rounds → slice_get rounds k ≡ Some round →
       AreNextPrices case.week k (λ order. carriers order round.answers) round.prices now
 
@@ -28,26 +29,26 @@ pub record IsRaised (value bound raised : ℕ) (now kept held : Prices) : Type 0
 
 -- a run may begin
 abbrev pub RunBegins : Type 0
-RunBegins = (m : ℕ) (case : Case) (pairs : Pairs) (first : ℕ) (before : Prices) → ArePricingRoundsSoFar m case pairs first first before before before []
+RunBegins = (m : ℕ) (case : Case) (start : NodeStart) → ArePricingRoundsSoFar m case start start.bound start.prices start.prices []
 
 -- one whole round more
 abbrev pub RoundAdds : Type 0
-RoundAdds = (m : ℕ) (case : Case) (pairs : Pairs) (first bound raised : ℕ) (before kept held now next : Prices) (rounds : List Round) (answers : List Priced) →
-    ArePricingRoundsSoFar m case pairs first bound before kept now rounds → IsRound m case pairs now answers → is_whole answers ≡ true →
-    IsRaised (value_of_round case.week pairs (record { prices = now; answers = answers })) bound raised now kept held →
+RoundAdds = (m : ℕ) (case : Case) (start : NodeStart) (bound raised : ℕ) (kept held now next : Prices) (rounds : List Round) (answers : List Priced) →
+    ArePricingRoundsSoFar m case start bound kept now rounds → IsRound m case start.pairs now answers → is_whole answers ≡ true →
+    IsRaised (value_of_round case.week start.pairs (record { prices = now; answers = answers })) bound raised now kept held →
     AreNextPrices case.week (length rounds) (λ order. carriers order answers) now next →
-    ArePricingRoundsSoFar m case pairs first raised before held next (rounds ++ record { prices = now; answers = answers } ∷ [])
+    ArePricingRoundsSoFar m case start raised held next (rounds ++ record { prices = now; answers = answers } ∷ [])
 
 -- a round that isn't whole ends the run
 abbrev pub PartEnds : Type 0
-PartEnds = (m : ℕ) (case : Case) (most : ℕ) (pairs : Pairs) (cost first bound : ℕ) (before kept now : Prices) (rounds : List Round) (answers : List Priced) →
-    ArePricingRoundsSoFar m case pairs first bound before kept now rounds → IsRound m case pairs now answers → is_whole answers ≡ false → suc (length rounds) ≤ most →
-    ArePricingRounds m case most pairs cost first bound before kept (rounds ++ record { prices = now; answers = answers } ∷ [])
+PartEnds = (m : ℕ) (case : Case) (most : ℕ) (start : NodeStart) (cost bound : ℕ) (kept now : Prices) (rounds : List Round) (answers : List Priced) →
+    ArePricingRoundsSoFar m case start bound kept now rounds → IsRound m case start.pairs now answers → is_whole answers ≡ false → suc (length rounds) ≤ most →
+    ArePricingRounds m case most start cost bound kept (rounds ++ record { prices = now; answers = answers } ∷ [])
 
 -- a whole round ends the run, where it is the last, or all is decided, or the bound has reached the cost
 abbrev pub WholeEnds : Type 0
-WholeEnds = (m : ℕ) (case : Case) (most : ℕ) (pairs : Pairs) (cost first bound raised : ℕ) (before kept held now : Prices) (rounds : List Round) (answers : List Priced) →
-    ArePricingRoundsSoFar m case pairs first bound before kept now rounds → IsRound m case pairs now answers → is_whole answers ≡ true →
-    IsRaised (value_of_round case.week pairs (record { prices = now; answers = answers })) bound raised now kept held →
-    suc (length rounds) ≤ most → (suc (length rounds) ≡ most) ⊎ (IsDecided case.week pairs ⊎ (cost ≤ raised)) →
-    ArePricingRounds m case most pairs cost first raised before held (rounds ++ record { prices = now; answers = answers } ∷ [])
+WholeEnds = (m : ℕ) (case : Case) (most : ℕ) (start : NodeStart) (cost bound raised : ℕ) (kept held now : Prices) (rounds : List Round) (answers : List Priced) →
+    ArePricingRoundsSoFar m case start bound kept now rounds → IsRound m case start.pairs now answers → is_whole answers ≡ true →
+    IsRaised (value_of_round case.week start.pairs (record { prices = now; answers = answers })) bound raised now kept held →
+    suc (length rounds) ≤ most → (suc (length rounds) ≡ most) ⊎ (IsDecided case.week start.pairs ⊎ (cost ≤ raised)) →
+    ArePricingRounds m case most start cost raised held (rounds ++ record { prices = now; answers = answers } ∷ [])

@@ -1,6 +1,7 @@
 // The two children of a node.
 ghost use Rattle.std.specs.Prelude.{◌≡◌, ℕ, ◌+◌, ◌≤◌, ◌++◌, ◌∷◌, [], List, length, IfOk, Some, slice_get};
 ghost use Rattle.duty_plan.specs.declared.nodes.Node.{Node as GhostNode};
+ghost use Rattle.week_book.specs.Weeks.{IsWeek};
 ghost use Rattle.duty_plan.specs.Duties.{IsCase};
 ghost use Rattle.duty_plan.specs.Nodes.{IsNode};
 ghost use Rattle.duty_plan.specs.Values.{IsPrices};
@@ -9,16 +10,39 @@ ghost use Rattle.duty_plan.specs.Trees.{IsLimits};
 ghost use Rattle.price_master.specs.Pools.{IsPool};
 ghost use Rattle.branch_tree.specs.Growth.{IsKept, branched_at};
 ghost use Rattle.branch_tree.specs.Paths.{HasEarlierParents};
-ghost use Rattle.branch_tree.specs.Searching.{IsNextNode, IsSearching};
+ghost use Rattle.branch_tree.specs.Searching.{IsNextNode, IsSearching, IsStartUnder};
 
 use crate::choosing::next_pair;
 use crate::keeping::Kept;
+use crate::leaves::copied;
 use crate::pairing::{pairs_of, pairs_under};
 use crate::rounds::{Leaf, run_node};
-use duty_plan::{Case, Decision, Gate, Limits, Node, Pricer};
+use duty_plan::{Case, Decision, Gate, Limits, Node, NodeStart, Pricer};
 use minute_line::{Many, Memory};
 use std::alloc::Global;
 use std::thread::Threads;
+use week_book::Week;
+
+/// How a child of the node of that number begins.
+fn start_under(
+    alloc: Global,
+    week: &Week,
+    tree: &[Node],
+    number: u32,
+    decision: Decision,
+) -> Result<NodeStart, Memory>
+    requires week { IsWeek week.now }
+    requires number { (1 ≤ number) × (number ≤ length tree.now) }
+    requires parents { HasEarlierParents tree.now }
+    ensures { IfOk result (λ start. IsStartUnder week.now tree.now number decision start) }
+{
+    let node = &tree[number as usize - 1];
+    Ok(NodeStart {
+        pairs: pairs_under(alloc, week, tree, number, decision)?,
+        bound: node.bound,
+        prices: copied(alloc, &node.prices)?,
+    })
+}
 
 /// The children of the node of that number, each after its rounds: the forcing one, then the barring one.
 pub(crate) fn children<R: Threads + Sync, G: Gate + Sync, P: Pricer>(
@@ -54,7 +78,6 @@ pub(crate) fn children<R: Threads + Sync, G: Gate + Sync, P: Pricer>(
     ensures pool { IsPool case.now kept.new.pool }
     ensures chunks { P.chunks pricer.new ≡ P.chunks pricer.old }
 {
-    let node = &tree[number as usize - 1];
     let count = &counts[number as usize - 1];
     let here = pairs_of(alloc, &case.week, tree, number)?;
     let Some((driver, order)) = next_pair(&case.week, &here, count.as_slice()) else {
@@ -62,8 +85,8 @@ pub(crate) fn children<R: Threads + Sync, G: Gate + Sync, P: Pricer>(
     };
     let force = Decision::Forced(driver, order);
     let bar = Decision::Barred(driver, order);
-    let forced = pairs_under(alloc, &case.week, tree, number, force)?;
-    let barred = pairs_under(alloc, &case.week, tree, number, bar)?;
+    let forced = start_under(alloc, &case.week, tree, number, force)?;
+    let barred = start_under(alloc, &case.week, tree, number, bar)?;
     let one = run_node(
         rt,
         gate,
@@ -73,8 +96,6 @@ pub(crate) fn children<R: Threads + Sync, G: Gate + Sync, P: Pricer>(
         pricer,
         kept,
         &forced,
-        node.bound,
-        &node.prices,
         number,
         force,
     )?;
@@ -87,8 +108,6 @@ pub(crate) fn children<R: Threads + Sync, G: Gate + Sync, P: Pricer>(
         pricer,
         kept,
         &barred,
-        node.bound,
-        &node.prices,
         number,
         bar,
     )?;

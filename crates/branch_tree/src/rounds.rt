@@ -13,7 +13,7 @@ use crate::answers::{counts, has_none, is_whole, values};
 use crate::keeping::Kept;
 use crate::leaves::{copied, evens, is_decided, state_of};
 use crate::taking::take_round;
-use duty_plan::{Case, Decision, Gate, Limits, Node, Pairs, Pricer, Prices};
+use duty_plan::{Case, Decision, Gate, Limits, Node, NodeStart, NodeState, Pricer, Prices};
 use minute_line::{Many, Memory};
 use price_master::{lagrange, next_prices};
 use std::alloc::Global;
@@ -26,7 +26,32 @@ pub(crate) struct Leaf {
     pub counts: Many<u32>,
 }
 
-/// Runs the rounds of a node from its parent's bound and prices, at the pairs of its path.
+/// The leaf that rounds leave, which was not branched.
+fn leaf_of(
+    parent: u32,
+    decision: Decision,
+    prices: Prices,
+    bound: u64,
+    state: NodeState,
+    counts: Many<u32>,
+) -> Leaf
+    ensures node { result.node ≡ record { parent = parent; decision = decision; prices = prices; bound = bound; seen = 0; state = state } }
+    ensures counts { result.counts ≡ counts }
+{
+    Leaf {
+        node: Node {
+            parent,
+            decision,
+            prices,
+            bound,
+            seen: 0,
+            state,
+        },
+        counts,
+    }
+}
+
+/// Runs the rounds of a node that begins so.
 pub(crate) fn run_node<R: Threads + Sync, G: Gate + Sync, P: Pricer>(
     rt: &R,
     gate: &G,
@@ -35,21 +60,19 @@ pub(crate) fn run_node<R: Threads + Sync, G: Gate + Sync, P: Pricer>(
     limits: &Limits,
     pricer: &mut P,
     kept: &mut Kept,
-    pairs: &Pairs,
-    first: u64,
-    before: &Prices,
+    start: &NodeStart,
     parent: u32,
     decision: Decision,
 ) -> Result<Leaf, Memory>
     requires case { IsCase case.now }
     requires limits { IsLimits limits.now }
     requires chunks { P.chunks pricer.old ≡ chunks_for limits.now.labels }
-    requires pairs { IsPairs case.now.week pairs.now }
-    requires prices { IsPrices case.now.week before.now }
-    requires once { ForcesOnce case.now.week pairs.now }
+    requires pairs { IsPairs case.now.week start.now.pairs }
+    requires prices { IsPrices case.now.week start.now.prices }
+    requires once { ForcesOnce case.now.week start.now.pairs }
     requires kept { IsKept case.now kept.old.plan kept.old.cost }
     requires pool { IsPool case.now kept.old.pool }
-    ensures ran { IfOk result (λ leaf. HasRan case.now limits.now kept.new.cost pairs.now first before.now leaf.node leaf.counts) }
+    ensures ran { IfOk result (λ leaf. HasRan case.now limits.now kept.new.cost start.now leaf.node leaf.counts) }
     ensures parent { IfOk result (λ leaf. leaf.node.parent ≡ parent) }
     ensures decision { IfOk result (λ leaf. leaf.node.decision ≡ decision) }
     ensures prices { IfOk result (λ leaf. IsPrices case.now.week leaf.node.prices) }
@@ -58,51 +81,29 @@ pub(crate) fn run_node<R: Threads + Sync, G: Gate + Sync, P: Pricer>(
     ensures pool { IsPool case.now kept.new.pool }
     ensures chunks { P.chunks pricer.new ≡ P.chunks pricer.old }
 {
-    let decided = is_decided(&case.week, pairs);
-    let mut bound = first;
-    let mut prices = copied(alloc, before)?;
-    let mut now = copied(alloc, before)?;
+    let decided = is_decided(&case.week, &start.pairs);
+    let mut bound = start.bound;
+    let mut prices = copied(alloc, &start.prices)?;
+    let mut now = copied(alloc, &start.prices)?;
     let mut carried = evens(alloc, &case.week)?;
     let mut k = 0;
     loop {
-        let answers = pricer.round(rt, gate, alloc, case, pairs, &now)?;
+        let answers = pricer.round(rt, gate, alloc, case, &start.pairs, &now)?;
         if !is_whole(answers.as_slice()) {
             let state = state_of(has_none(answers.as_slice()), kept.cost <= bound, decided);
-            let node = Node {
-                parent,
-                decision,
-                prices,
-                bound,
-                seen: 0,
-                state,
-            };
-            return Ok(Leaf {
-                node,
-                counts: carried,
-            });
+            return Ok(leaf_of(parent, decision, prices, bound, state, carried));
         }
         take_round(alloc, case, kept, answers.as_slice())?;
         let least = values(alloc, answers.as_slice())?;
         carried = counts(alloc, &case.week, answers.as_slice())?;
-        let value = lagrange(&case.week, pairs, &now, &least);
+        let value = lagrange(&case.week, &start.pairs, &now, &least);
         if value > bound {
             bound = value;
             prices = copied(alloc, &now)?;
         }
         if k + 1 == limits.rounds || decided || kept.cost <= bound {
             let state = state_of(false, kept.cost <= bound, decided);
-            let node = Node {
-                parent,
-                decision,
-                prices,
-                bound,
-                seen: 0,
-                state,
-            };
-            return Ok(Leaf {
-                node,
-                counts: carried,
-            });
+            return Ok(leaf_of(parent, decision, prices, bound, state, carried));
         }
         next_prices(&case.week, &mut now, &carried, k);
         k += 1;

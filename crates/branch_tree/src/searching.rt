@@ -12,7 +12,7 @@ use crate::ending::{finish, turned_node};
 use crate::keeping::first_kept;
 use crate::pairing::pairs_under;
 use crate::rounds::run_node;
-use duty_plan::{Case, Decision, Gate, Limits, Outcome, Pricer};
+use duty_plan::{Case, Decision, Gate, Limits, NodeStart, Outcome, Pricer};
 use minute_line::{Many, Memory};
 use price_master::start_prices;
 use std::alloc::Global;
@@ -38,6 +38,11 @@ pub fn search<R: Threads + Sync, G: Gate + Sync, P: Pricer>(
     let prices = start_prices(alloc, &case.week)?;
     let mut tree = Many::new(alloc);
     let pairs = pairs_under(alloc, &case.week, tree.as_slice(), 0, Decision::Root)?;
+    let start = NodeStart {
+        pairs,
+        bound: 0,
+        prices,
+    };
     let root = run_node(
         rt,
         gate,
@@ -46,9 +51,7 @@ pub fn search<R: Threads + Sync, G: Gate + Sync, P: Pricer>(
         limits,
         pricer,
         &mut kept,
-        &pairs,
-        0,
-        &prices,
+        &start,
         0,
         Decision::Root,
     )?;

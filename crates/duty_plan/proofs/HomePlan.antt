@@ -6,6 +6,7 @@ use Rattle.duty_plan.specs.declared.duties.Duty.{Duty}
 use Rattle.duty_plan.specs.declared.plans.Case.{Case}
 use Rattle.duty_plan.specs.declared.plans.Plan.{Plan}
 use Rattle.duty_plan.specs.declared.deciding.Pairs.{Pairs}
+use Rattle.duty_plan.specs.declared.nodes.NodeStart.{NodeStart}
 use Rattle.duty_plan.specs.declared.outcomes.Limits.{Limits}
 use Rattle.duty_plan.specs.declared.outcomes.Outcome.{Outcome}
 use Rattle.duty_plan.specs.declared.outcomes.State.TheVariants.{Proved}
@@ -77,8 +78,12 @@ only-round : (x y : Round) (k : ℕ) → slice_get (x ∷ []) k ≡ Some y → (
 only-round x y zero h = (refl, cc)
 only-round x y (suc k) h = cc
 
+-- how the root begins
+abbrev home_start : NodeStart
+home_start = record { pairs = home_pairs; bound = 0; prices = no_prices }
+
 run : (case : Case) (limits : Limits) (m : ℕ) → IsLimits limits → length case.week.orders ≡ 0 →
-    ArePricingRounds m case limits.rounds home_pairs 0 0 0 no_prices no_prices (home_round_of case ∷ [])
+    ArePricingRounds m case limits.rounds home_start 0 0 no_prices (home_round_of case ∷ [])
 run case limits m l none = record {
   some = (omega arith, l.rounds.0);
   begins = λ round h. sym (ap (λ (x : Round). x.prices) (only-round _ round 0 h).1);
@@ -104,11 +109,12 @@ run case limits m l none = record {
 has-run : (case : Case) (limits : Limits) → IsLimits limits → length case.week.orders ≡ 0 →
     HasRun case limits 0 (closed_root no_prices 0 ∷ []) 1 (closed_root no_prices 0) (home_round_of case ∷ [])
 has-run case limits l none = record {
-  pairs = home_pairs;
-  first = 0;
-  before = no_prices;
-  are_pairs = record { shape = record { orders = sym none; cells = cells }; each = λ d o a b. absurd (omega arith) };
-  begins = record { root = λ e. (refl, map-nothing case.week.orders none); child = λ node is. absurd (omega (arith, is.0)) };
+  start = home_start;
+  begins = record {
+    pairs = record { shape = record { orders = sym none; cells = cells }; each = λ d o a b. absurd (omega arith) };
+    root = λ e. (refl, map-nothing case.week.orders none);
+    child = λ node is. absurd (omega (arith, is.0));
+  };
   run = run case limits _ l none;
 }
   where

@@ -12,7 +12,7 @@ use Rattle.duty_plan.specs.declared.pricing.Prices.{Prices}
 use Rattle.duty_plan.specs.Duties.{IsLawfulPlan, cost_of_plan}
 use Rattle.duty_plan.specs.Values.{cost_of_all}
 use Rattle.duty_plan.specs.Rounds.{Round}
-use Rattle.duty_plan.specs.Nodes.{IsNode}
+use Rattle.duty_plan.specs.Nodes.{IsNode, IsTree}
 use Rattle.duty_plan.specs.Trees.{HasRun, IsRight, IsState, IsLimits, EndsEmpty, BeatsDuties}
 
 -- the root, closed at a cost
@@ -34,48 +34,48 @@ pub one_node : (case : Case) (limits : Limits) (plan : Plan) (prices : Prices) (
     HasRun case limits cost (closed_root prices cost ∷ []) 1 (closed_root prices cost) run → BeatsDuties case cost run →
     (EndsEmpty run → ⊥) → IsRight case limits (one_node_of plan prices cost)
 one_node case limits plan prices cost run l lawful costs cheap has beats full = record {
-  lawful = lawful;
-  cost = costs;
-  cheap = cheap;
-  few = l.nodes.0;
-  tree = record {
-    some = omega arith;
-    root = λ node is. let same = (only_this node 1 is).1 in (sym (ap (λ (x : Node). x.parent) same), sym (ap (λ (x : Node). x.decision) same));
-    others = λ k node s is. let one = (only_this node k is).0 in absurd (omega arith);
-    parents = λ k node parent is at. absurd (omega (arith, at.0, sym (ap (λ (x : Node). x.parent) (only_this node k is).1)));
-    branched = λ k node is e. let same = ap (λ (x : Node). x.state) (only_this node k is).1 in cc;
+  plan = record { lawful = lawful; costs = costs; cheap = cheap };
+  runs = run ∷ [];
+  tree = record { few = l.nodes.0; shape = shape; all_runs = refl; each = each };
+  branching = record {
+    seen = record {
+      unbranched = λ k node is e. sym (ap (λ (x : Node). x.seen) (only_this node k is).1);
+      branched = λ k node is e. let same = ap (λ (x : Node). x.state) (only_this node k is).1 in cc;
+      falls = λ j k first second a b s is at p q. let one = (only_this first j is).0 in let two = (only_this second k at).0 in absurd (omega arith);
+    };
+    best_first = λ k child node forcing other j is at e d o f c. let same = ap (λ (x : Node). x.decision) (only_this forcing child at).1 in cc;
+    picks = λ k child d o rounds forcing h at e f. let same = ap (λ (x : Node). x.decision) (only_this forcing child at).1 in cc;
   };
-  rounds = run ∷ [];
-  all_runs = refl;
-  runs = runs;
-  seen = record {
-    unbranched = λ k node is e. sym (ap (λ (x : Node). x.seen) (only_this node k is).1);
-    branched = λ k node is e. let same = ap (λ (x : Node). x.state) (only_this node k is).1 in cc;
-    falls = λ j k first second a b s is at p q. let one = (only_this first j is).0 in let two = (only_this second k at).0 in absurd (omega arith);
+  state = record {
+    open_nodes = ((λ e. cc), (λ leaf. let same = ap (λ (x : Node). x.state) (only_this leaf.1 leaf.0 leaf.2).1 in let is = leaf.3 in cc));
+    full = λ e. cc;
+    open_labels = ((λ e. cc), (λ leaf. let same = ap (λ (x : Node). x.state) (only_this leaf.1.1 leaf.1.0 leaf.1.2).1 in let is = leaf.1.3 in cc));
   };
-  best_first = λ k child node forcing other j is at e d o f c. let same = ap (λ (x : Node). x.decision) (only_this forcing child at).1 in cc;
-  picks = λ k child d o rounds forcing h at e f. let same = ap (λ (x : Node). x.decision) (only_this forcing child at).1 in cc;
-  open_nodes = ((λ e. cc), (λ leaf. let same = ap (λ (x : Node). x.state) (only_this leaf.1 leaf.0 leaf.2).1 in let is = leaf.3 in cc));
-  full = λ e. cc;
-  open_labels = ((λ e. cc), (λ leaf. let same = ap (λ (x : Node). x.state) (only_this leaf.1.1 leaf.1.0 leaf.1.2).1 in let is = leaf.1.3 in cc));
-  proved = λ e. refl;
-  bound = λ n k node is e. absurd (n refl);
-  bound_at = λ n. absurd (n refl);
+  bound = record { proved = λ e. refl; least = λ n k node is e. absurd (n refl); attained = λ n. absurd (n refl) };
 }
   where
     only_this : (node : Node) (k : ℕ) → IsNode (closed_root prices cost ∷ []) k node → (k ≡ 1) × (closed_root prices cost ≡ node)
     only_this node k is = only-node (closed_root prices cost) node k is
 
+    shape : IsTree case.week (closed_root prices cost ∷ [])
+    shape = record {
+      some = omega arith;
+      root = λ node is. let same = (only_this node 1 is).1 in (sym (ap (λ (x : Node). x.parent) same), sym (ap (λ (x : Node). x.decision) same));
+      others = λ k node s is. let one = (only_this node k is).0 in absurd (omega arith);
+      parents = λ k node parent is at. absurd (omega (arith, at.0, sym (ap (λ (x : Node). x.parent) (only_this node k is).1)));
+      branched = λ k node is e. let same = ap (λ (x : Node). x.state) (only_this node k is).1 in cc;
+    }
+
     state : IsState case.week cost (closed_root prices cost ∷ []) 1 (closed_root prices cost) run
     state = record { branched = λ e. cc; empty = λ e. cc; closed = λ e. (full, omega arith); spent = λ e. cc; open_leaf = λ e. cc }
 
-    runs : (k : ℕ) (node : Node) (rounds : List Round) → IsNode (closed_root prices cost ∷ []) k node →
+    each : (k : ℕ) (node : Node) (rounds : List Round) → IsNode (closed_root prices cost ∷ []) k node →
         slice_get (run ∷ []) (pred k) ≡ Some rounds →
         HasRun case limits cost (closed_root prices cost ∷ []) k node rounds × BeatsDuties case cost rounds ×
         IsState case.week cost (closed_root prices cost ∷ []) k node rounds
-    runs zero node rounds is h = absurd (omega (arith, is.0))
-    runs (suc (suc k)) node rounds is h = cc
-    runs (suc zero) node rounds is h =
+    each zero node rounds is h = absurd (omega (arith, is.0))
+    each (suc (suc k)) node rounds is h = cc
+    each (suc zero) node rounds is h =
         let same : closed_root prices cost ≡ node = (only_this node 1 is).1 in
         let these : run ≡ rounds = cc in
         subst (λ (x : List Round). HasRun case limits cost (closed_root prices cost ∷ []) 1 node x × BeatsDuties case cost x ×

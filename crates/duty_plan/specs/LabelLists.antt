@@ -50,24 +50,51 @@ abbrev pub completion_bound : Case → ℕ → Pairs → Prices → PartialDuty 
 completion_bound case driver pairs prices partial =
     reduced_cost case driver prices partial -ℤ pos (total_below (still_open case.week driver pairs prices partial) (length case.week.orders))
 
--- a label list of a driver: the first entry is the empty partial duty's, and each later one was extended from an earlier one;
--- no entry but the first betters a later one, nor any that was extended; each but the first serves the forced orders
--- whose windows have closed; and the completion bound of each is below the value of any earlier entry that is a duty inside
+-- the first entry is the empty partial duty's
+abbrev pub BeginsEmpty : List Entry → Type 0
+BeginsEmpty entries = (e : Entry) → slice_get entries 0 ≡ Some e → e.partial ≡ []
+
+-- each later entry was extended from an earlier one
+abbrev pub AreExtended : Case → ℕ → Prices → List Entry → Type 0
+AreExtended case driver prices entries = (n : ℕ) (e : Entry) → 0 < n → slice_get entries n ≡ Some e → IsExtended case driver prices entries n e
+
+-- one entry betters another
+abbrev pub Betters : Case → ℕ → Pairs → Entry → Entry → Type 0
+Betters case driver pairs better e = Dominates better.label e.label (forced_orders case.week pairs driver)
+
+-- no entry but the first betters a later one
+abbrev pub AreUnbettered : Case → ℕ → Pairs → List Entry → Type 0
+AreUnbettered case driver pairs entries = (n k : ℕ) (e better : Entry) → 0 < k → k < n → slice_get entries n ≡ Some e →
+    slice_get entries k ≡ Some better → Betters case driver pairs better e → ⊥
+
+-- no other entry but the first, earlier or later, betters one that was extended, unless this is the first
+abbrev pub HaveBestParents : Case → ℕ → Pairs → List Entry → Type 0
+HaveBestParents case driver pairs entries = (n k child : ℕ) (e better c : Entry) → 0 < n → 0 < k → 0 < child → k ≢ n →
+    slice_get entries n ≡ Some e → slice_get entries k ≡ Some better → slice_get entries child ≡ Some c → c.parent ≡ n →
+    Betters case driver pairs better e → ⊥
+
+-- each entry but the first serves the forced orders whose windows have closed
+abbrev pub AreOnTime : Case → ℕ → Pairs → List Entry → Type 0
+AreOnTime case driver pairs entries = (n order : ℕ) (e : Entry) → 0 < n → slice_get entries n ≡ Some e → order < length case.week.orders →
+    pair_at pairs driver order ≡ Forced → closes_of (order_of case.week order) < at_after case.week e.partial → serves order e.partial ≡ true
+
+-- the completion bound of each entry is below the value of any earlier one that is a duty inside
+abbrev pub AreHopeful : Case → ℕ → Pairs → Prices → List Entry → Type 0
+AreHopeful case driver pairs prices entries = (n k : ℕ) (e known : Entry) → k < n → slice_get entries n ≡ Some e →
+    slice_get entries k ≡ Some known → place_after known.partial ≡ 0 → IsInside case.week pairs driver known.partial →
+    completion_bound case driver pairs prices e.partial <ℤ reduced_cost case driver prices known.partial
+
+-- a label list of a driver: what a pricing may have stored that keeps no label which another betters, nor one whose forced
+-- orders are lost, nor one that hopes for no less than what is known
 pub record IsLabelList (case : Case) (driver : ℕ) (pairs : Pairs) (prices : Prices) (entries : List Entry) : Type 0 where
   pub some : 0 < length entries
   pub entry : EachOf (λ n e. IsEntry case driver pairs prices e) entries
-  pub first : (e : Entry) → slice_get entries 0 ≡ Some e → e.partial ≡ []
-  pub extended : (n : ℕ) (e : Entry) → 0 < n → slice_get entries n ≡ Some e → IsExtended case driver prices entries n e
-  pub not_bettered : (n k : ℕ) (e better : Entry) → 0 < k → k < n → slice_get entries n ≡ Some e →
-      slice_get entries k ≡ Some better → Dominates better.label e.label (forced_orders case.week pairs driver) → ⊥
-  pub best_extended : (n k child : ℕ) (e better c : Entry) → 0 < n → 0 < k → 0 < child → k ≢ n → slice_get entries n ≡ Some e →
-      slice_get entries k ≡ Some better → slice_get entries child ≡ Some c → c.parent ≡ n →
-      Dominates better.label e.label (forced_orders case.week pairs driver) → ⊥
-  pub on_time : (n order : ℕ) (e : Entry) → 0 < n → slice_get entries n ≡ Some e → order < length case.week.orders →
-      pair_at pairs driver order ≡ Forced → closes_of (order_of case.week order) < at_after case.week e.partial → serves order e.partial ≡ true
-  pub hopeful : (n k : ℕ) (e known : Entry) → k < n → slice_get entries n ≡ Some e → slice_get entries k ≡ Some known →
-      place_after known.partial ≡ 0 → IsInside case.week pairs driver known.partial →
-      completion_bound case driver pairs prices e.partial <ℤ reduced_cost case driver prices known.partial
+  pub first : BeginsEmpty entries
+  pub extended : AreExtended case driver prices entries
+  pub not_bettered : AreUnbettered case driver pairs entries
+  pub best_extended : HaveBestParents case driver pairs entries
+  pub on_time : AreOnTime case driver pairs entries
+  pub hopeful : AreHopeful case driver pairs prices entries
 
 -- how many entries some lists have together
 abbrev pub total_length : List (List Entry) → ℕ

@@ -3,6 +3,7 @@ use Rattle.std.specs.Prelude.{◌≡◌, ◌⊎◌, ℕ, zero, suc, pred, ◌+�
 use Rattle.week_book.specs.declared.weeks.Week.{Week}
 use Rattle.duty_plan.specs.declared.plans.Case.{Case}
 use Rattle.duty_plan.specs.declared.deciding.Pairs.{Pairs}
+use Rattle.duty_plan.specs.declared.nodes.NodeStart.{NodeStart}
 use Rattle.duty_plan.specs.declared.pricing.Prices.{Prices}
 use Rattle.duty_plan.specs.declared.pricing.Priced.{Priced}
 use Rattle.duty_plan.specs.declared.pricing.Priced.TheVariants.{Least, NoDuty, Spent}
@@ -106,35 +107,35 @@ value_of_round week pairs round = lagrangian week pairs round.prices (values_of 
 
 -- the bound is the value of a whole round, above the first bound and above the values of all whole rounds before it, and
 -- the kept prices are that round's
-pub record IsFirstAt (week : Week) (pairs : Pairs) (rounds : List Round) (first best : ℕ) (kept : Prices) : Type 0 where
+pub record IsFirstAt (week : Week) (start : NodeStart) (rounds : List Round) (best : ℕ) (kept : Prices) : Type 0 where
   pub number : ℕ
   pub round : Round
   pub is_round : slice_get rounds number ≡ Some round
   pub whole : is_whole round.answers ≡ true
-  pub value : value_of_round week pairs round ≡ best
+  pub value : value_of_round week start.pairs round ≡ best
   pub prices : round.prices ≡ kept
-  pub above_first : first < best
+  pub above_first : start.bound < best
   pub earlier : (k : ℕ) (other : Round) → k < number → slice_get rounds k ≡ Some other → is_whole other.answers ≡ true →
-      value_of_round week pairs other < best
+      value_of_round week start.pairs other < best
 
 -- the bound of a node is the greatest of its first bound and the values of its whole rounds; its kept prices are those of
 -- the first round that gave this bound, or those from before where no round is above the first bound
-pub record IsBest (week : Week) (pairs : Pairs) (rounds : List Round) (first best : ℕ) (before kept : Prices) : Type 0 where
-  pub above_first : first ≤ best
+pub record IsBest (week : Week) (start : NodeStart) (rounds : List Round) (best : ℕ) (kept : Prices) : Type 0 where
+  pub above_first : start.bound ≤ best
   pub above : (k : ℕ) (round : Round) → slice_get rounds k ≡ Some round → is_whole round.answers ≡ true →
-      value_of_round week pairs round ≤ best
-  pub from : ((best ≡ first) × (kept ≡ before)) ⊎ IsFirstAt week pairs rounds first best kept
+      value_of_round week start.pairs round ≤ best
+  pub from : ((best ≡ start.bound) × (kept ≡ start.prices)) ⊎ IsFirstAt week start rounds best kept
 
--- the run of a node at its pairs, from the bound `first` and the prices `before` that its parent left, with `most` rounds
--- at most: each round is right and has the prices after the one before it, all but the last are whole, and a whole last
--- round ends a full run, a decided node's, or one whose bound has reached the cost
-pub record ArePricingRounds (m : ℕ) (case : Case) (most : ℕ) (pairs : Pairs) (cost : ℕ) (first bound : ℕ) (before kept : Prices) (rounds : List Round) : Type 0 where
+-- the run of a node that begins so, with `most` rounds at most: each round is right and has the prices after the one
+-- before it, all but the last are whole, and a whole last round ends a full run, a decided node's, or one whose bound has
+-- reached the cost
+pub record ArePricingRounds (m : ℕ) (case : Case) (most : ℕ) (start : NodeStart) (cost bound : ℕ) (kept : Prices) (rounds : List Round) : Type 0 where
   pub some : (1 ≤ length rounds) × (length rounds ≤ most)
-  pub begins : (round : Round) → slice_get rounds 0 ≡ Some round → round.prices ≡ before
+  pub begins : (round : Round) → slice_get rounds 0 ≡ Some round → round.prices ≡ start.prices
   pub moves : (k : ℕ) (round next : Round) → slice_get rounds k ≡ Some round → slice_get rounds (suc k) ≡ Some next →
       AreNextPrices case.week k (λ order. carriers order round.answers) round.prices next.prices
-  pub each : (k : ℕ) (round : Round) → slice_get rounds k ≡ Some round → IsRound m case pairs round.prices round.answers
+  pub each : (k : ℕ) (round : Round) → slice_get rounds k ≡ Some round → IsRound m case start.pairs round.prices round.answers
   pub whole : (k : ℕ) (round : Round) → suc k < length rounds → slice_get rounds k ≡ Some round → is_whole round.answers ≡ true
   pub ends : (round : Round) → slice_get rounds (pred (length rounds)) ≡ Some round → is_whole round.answers ≡ true →
-      (length rounds ≡ most) ⊎ (IsDecided case.week pairs ⊎ (cost ≤ bound))
-  pub best : IsBest case.week pairs rounds first bound before kept
+      (length rounds ≡ most) ⊎ (IsDecided case.week start.pairs ⊎ (cost ≤ bound))
+  pub best : IsBest case.week start rounds bound kept

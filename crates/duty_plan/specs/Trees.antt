@@ -6,12 +6,13 @@ use Rattle.duty_plan.specs.declared.plans.Plan.{Plan}
 use Rattle.duty_plan.specs.declared.duties.Duty.{Duty}
 use Rattle.duty_plan.specs.declared.outcomes.Limits.{Limits}
 use Rattle.duty_plan.specs.declared.outcomes.Outcome.{Outcome}
+use Rattle.duty_plan.specs.declared.outcomes.State.{State}
 use Rattle.duty_plan.specs.declared.outcomes.State.TheVariants.{Proved, OpenLabels, OpenNodes}
 use Rattle.duty_plan.specs.declared.nodes.Decision.TheVariants.{Forced as forces}
 use Rattle.duty_plan.specs.declared.nodes.Node.{Node}
+use Rattle.duty_plan.specs.declared.nodes.NodeStart.{NodeStart}
 use Rattle.duty_plan.specs.declared.nodes.NodeState.{NodeState}
 use Rattle.duty_plan.specs.declared.nodes.NodeState.TheVariants.{Branched, Closed, Empty, Open, Spent}
-use Rattle.duty_plan.specs.declared.deciding.Pairs.{Pairs}
 use Rattle.duty_plan.specs.declared.pricing.Prices.{Prices}
 use Rattle.duty_plan.specs.declared.pricing.Priced.TheVariants.{Least}
 use Rattle.duty_plan.specs.Duties.{IsLawfulPlan, cost_of_plan}
@@ -25,19 +26,18 @@ use Rattle.duty_plan.specs.Branching.{IsBestFirst, HasIncumbentCosts, IsBranchin
 abbrev pub AreStartPrices : Week → Prices → Type 0
 AreStartPrices week prices = prices.cents ≡ map (λ order. order.price) week.orders
 
--- the bound and the prices with which a node begins: its parent's, or 0 and the start prices at the root
-pub record Begins (week : Week) (tree : List Node) (parent : ℕ) (bound : ℕ) (prices : Prices) : Type 0 where
-  pub root : parent ≡ 0 → (bound ≡ 0) × AreStartPrices week prices
-  pub child : (node : Node) → IsNode tree parent node → (bound ≡ node.bound) × (prices ≡ node.prices)
+-- a node begins so: at the pairs of its path, with the bound and the prices of its parent, or 0 and the start prices at the
+-- root
+pub record Begins (week : Week) (tree : List Node) (number : ℕ) (node : Node) (start : NodeStart) : Type 0 where
+  pub pairs : ArePairsOf week (path_of tree number) start.pairs
+  pub root : node.parent ≡ 0 → (start.bound ≡ 0) × AreStartPrices week start.prices
+  pub child : (parent : Node) → IsNode tree node.parent parent → (start.bound ≡ parent.bound) × (start.prices ≡ parent.prices)
 
--- the node has this run, at the pairs of its path and towards the printed cost
+-- the node has this run, towards the printed cost
 pub record HasRun (case : Case) (limits : Limits) (cost : ℕ) (tree : List Node) (number : ℕ) (node : Node) (rounds : List Round) : Type 0 where
-  pub pairs : Pairs
-  pub first : ℕ
-  pub before : Prices
-  pub are_pairs : ArePairsOf case.week (path_of tree number) pairs
-  pub begins : Begins case.week tree node.parent first before
-  pub run : ArePricingRounds (chunks_for limits.labels) case limits.rounds pairs cost first node.bound before node.prices rounds
+  pub start : NodeStart
+  pub begins : Begins case.week tree number node start
+  pub run : ArePricingRounds (chunks_for limits.labels) case limits.rounds start cost node.bound node.prices rounds
 
 -- the run ended with a NoDuty
 abbrev pub EndsEmpty : List Round → Type 0
@@ -75,31 +75,54 @@ abbrev pub BeatsDuties : Case → ℕ → List Round → Type 0
 BeatsDuties case cost rounds = (k driver : ℕ) (round : Round) (value : ℤ) (duty : Duty) → slice_get rounds k ≡ Some round →
     is_whole round.answers ≡ true → slice_get round.answers driver ≡ Some (Least value duty) → BeatsDuty case cost driver duty
 
--- a right outcome: a lawful plan at its cost, and a tree within the limits, with a run for each node, that shows the
--- bound and the state; the bound is the cost, or the least bound of the leaves that are not closed or empty
+-- the plan is lawful and costs so much, and no more than giving all orders away
+pub record IsPlanAtCost (case : Case) (plan : Plan) (cost : ℕ) : Type 0 where
+  pub lawful : IsLawfulPlan case plan
+  pub costs : cost_of_plan case plan ≡ cost
+  pub cheap : cost ≤ cost_of_all case.week
+
+-- a tree within the limits with a run for each of its nodes, no least duty of which makes a cheaper plan; the runs and the
+-- bounds give the nodes their states
+pub record HasRuns (case : Case) (limits : Limits) (cost : ℕ) (tree : List Node) (runs : List (List Round)) : Type 0 where
+  pub few : length tree ≤ limits.nodes
+  pub shape : IsTree case.week tree
+  pub all_runs : length runs ≡ length tree
+  pub each : (k : ℕ) (node : Node) (run : List Round) → IsNode tree k node → slice_get runs (pred k) ≡ Some run →
+      HasRun case limits cost tree k node run × BeatsDuties case cost run × IsState case.week cost tree k node run
+
+-- each branched node was branched at the pair that its run gives
+abbrev pub HasBranchingPairs : Week → List Node → List (List Round) → Type 0
+HasBranchingPairs week tree runs = (k child d o : ℕ) (run : List Round) (forcing : Node) → slice_get runs (pred k) ≡ Some run →
+    IsNode tree child forcing → forcing.parent ≡ k → forcing.decision ≡ forces d o → IsBranchingPair week tree k run d o
+
+-- how the tree was branched: below a kept cost that never rose, the best node first, at the pair that its run gives
+pub record IsBranchedByRule (week : Week) (cost : ℕ) (tree : List Node) (runs : List (List Round)) : Type 0 where
+  pub seen : HasIncumbentCosts week cost tree
+  pub best_first : IsBestFirst week tree
+  pub picks : HasBranchingPairs week tree runs
+
+-- the state that the leaves show: nodes were wanted where one is Open, and then no two more fit; labels where none is Open
+-- and one is Spent
+pub record ShowsState (limits : Limits) (tree : List Node) (state : State) : Type 0 where
+  pub open_nodes : (state ≡ OpenNodes) ↔ HasLeaf Open tree
+  pub full : state ≡ OpenNodes → limits.nodes ≤ length tree + 1
+  pub open_labels : (state ≡ OpenLabels) ↔ ((HasLeaf Open tree → ⊥) × HasLeaf Spent tree)
+
+-- the bound that the leaves show: the cost where the state is Proved, else the least bound of the Open and Spent leaves
+pub record ShowsBound (tree : List Node) (state : State) (cost bound : ℕ) : Type 0 where
+  pub proved : state ≡ Proved → bound ≡ cost
+  pub least : state ≢ Proved → (k : ℕ) (node : Node) → IsNode tree k node → (node.state ≡ Open) ⊎ (node.state ≡ Spent) → bound ≤ node.bound
+  pub attained : state ≢ Proved → (k : ℕ) × (node : Node) × IsNode tree k node × ((node.state ≡ Open) ⊎ (node.state ≡ Spent)) ×
+      (node.bound ≡ bound)
+
+-- a right outcome: a lawful plan at its cost, and a tree with runs, branched by the rule, that shows the state and the bound
 pub record IsRight (case : Case) (limits : Limits) (outcome : Outcome) : Type 0 where
-  pub lawful : IsLawfulPlan case outcome.plan
-  pub cost : cost_of_plan case outcome.plan ≡ outcome.cost
-  pub cheap : outcome.cost ≤ cost_of_all case.week
-  pub few : length outcome.tree ≤ limits.nodes
-  pub tree : IsTree case.week outcome.tree
-  pub rounds : List (List Round)
-  pub all_runs : length rounds ≡ length outcome.tree
-  pub runs : (k : ℕ) (node : Node) (run : List Round) → IsNode outcome.tree k node → slice_get rounds (pred k) ≡ Some run →
-      HasRun case limits outcome.cost outcome.tree k node run × BeatsDuties case outcome.cost run ×
-      IsState case.week outcome.cost outcome.tree k node run
-  pub seen : HasIncumbentCosts case.week outcome.cost outcome.tree
-  pub best_first : IsBestFirst case.week outcome.tree
-  pub picks : (k child d o : ℕ) (run : List Round) (forcing : Node) → slice_get rounds (pred k) ≡ Some run → IsNode outcome.tree child forcing →
-      forcing.parent ≡ k → forcing.decision ≡ forces d o → IsBranchingPair case.week outcome.tree k run d o
-  pub open_nodes : (outcome.state ≡ OpenNodes) ↔ HasLeaf Open outcome.tree
-  pub full : outcome.state ≡ OpenNodes → limits.nodes ≤ length outcome.tree + 1
-  pub open_labels : (outcome.state ≡ OpenLabels) ↔ ((HasLeaf Open outcome.tree → ⊥) × HasLeaf Spent outcome.tree)
-  pub proved : outcome.state ≡ Proved → outcome.bound ≡ outcome.cost
-  pub bound : outcome.state ≢ Proved → (k : ℕ) (node : Node) → IsNode outcome.tree k node → (node.state ≡ Open) ⊎ (node.state ≡ Spent) →
-      outcome.bound ≤ node.bound
-  pub bound_at : outcome.state ≢ Proved → (k : ℕ) × (node : Node) × IsNode outcome.tree k node ×
-      ((node.state ≡ Open) ⊎ (node.state ≡ Spent)) × (node.bound ≡ outcome.bound)
+  pub plan : IsPlanAtCost case outcome.plan outcome.cost
+  pub runs : List (List Round)
+  pub tree : HasRuns case limits outcome.cost outcome.tree runs
+  pub branching : IsBranchedByRule case.week outcome.cost outcome.tree runs
+  pub state : ShowsState limits outcome.tree outcome.state
+  pub bound : ShowsBound outcome.tree outcome.state outcome.cost outcome.bound
 
 -- limits that a search may be given: at most 2,097,152 labels, 1 to 4,095 nodes, and 1 to 100 rounds for each node
 pub record IsLimits (limits : Limits) : Type 0 where

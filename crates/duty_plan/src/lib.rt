@@ -42,7 +42,7 @@ pub use laws::{
     twins_are_alike, twins_share_label_lists,
 };
 pub use lines::line_of;
-pub use nodes::{Decision, Node, NodeState};
+pub use nodes::{Decision, Node, NodeStart, NodeState};
 pub use orders::serves;
 pub use outcomes::{Limits, Outcome, State};
 pub use planning::{Gate, Planner, Pricer, Straight};

@@ -1,5 +1,5 @@
 // The nodes of a search.
-use crate::Prices;
+use crate::{Pairs, Prices};
 
 /// What a node decides, beside all that its parent does.
 #[derive(Clone, Copy, PartialEq, Eq, Debug)]
@@ -25,6 +25,17 @@ pub enum NodeState {
     Open,
     /// A leaf without a Free pair, whose last round wanted labels, with a bound below the plan's cost.
     Spent,
+}
+
+/// With what a node begins.
+#[derive(Drop)]
+pub struct NodeStart {
+    /// What its path decides of each driver and order.
+    pub pairs: Pairs,
+    /// Its parent's bound, in cents, 0 for the root.
+    pub bound: u64,
+    /// Its parent's prices, for the root what a subcontractor takes for each order.
+    pub prices: Prices,
 }
 
 /// A node of a search's tree. Nodes are numbered from 1.

@@ -7,7 +7,7 @@ use Rattle.branch_tree.proofs.rounds.run_node.Given as goal
 
 abbrev pub invariant-loop-carried : goal.invariant-loop-carried
 invariant-loop-carried g l = record {
-  underway : IsUnderway l.case l.limits l.pairs l.first l.before l.k l.kept.cost l.bound l.prices l.now l.carried;
+  underway : IsUnderway l.case l.limits l.start l.k l.kept.cost l.bound l.prices l.now l.carried;
   few : l.k < l.limits.rounds;
   now_prices : IsPrices l.case.week l.now;
   kept_prices : IsPrices l.case.week l.prices;
