@@ -1,5 +1,5 @@
 -- A search begins with its root, and lasts through a branching.
-use Rattle.std.proofs.Common.{◌≡◌, ◌≢◌, ◌⊎◌, inl, inr, ℕ, zero, suc, pred, ◌+◌, ◌^◌, ◌<◌, ◌≤◌, List, [], ◌∷◌, ◌++◌, length, reverse, get_or, refl, ap, sym, subst, ◌∙◌, arith, Some, slice_get, length-append}
+use Rattle.std.proofs.Common.{◌≡◌, ◌≢◌, ◌⊎◌, inl, inr, ℕ, zero, suc, pred, ◌+◌, ◌^◌, ◌<◌, ◌≤◌, List, [], ◌∷◌, ◌++◌, length, get_or, refl, ap, sym, subst, ◌∙◌, arith, Some, slice_get, length-append}
 use Rattle.week_book.specs.declared.weeks.Week.{Week}
 use Rattle.duty_plan.specs.declared.plans.Case.{Case}
 use Rattle.duty_plan.specs.declared.plans.Plan.{Plan}
@@ -15,18 +15,17 @@ use Rattle.duty_plan.specs.Values.{ArePairsOf, IsPrices, decided_by, pair_at}
 use Rattle.duty_plan.specs.Rounds.{Round}
 use Rattle.duty_plan.specs.Nodes.{IsNode, path_of}
 use Rattle.duty_plan.specs.Branching.{IsBranchingPair, ViolatesCover}
-use Rattle.duty_plan.specs.Trees.{AreStartPrices, IsLimits}
+use Rattle.duty_plan.specs.Trees.{IsLimits}
 use Rattle.duty_plan.proofs.Lists.{slice_get-lt}
-use Rattle.price_master.proofs.Lookups.{get-before, get-after, same-or-not, at-most}
-use Rattle.branch_tree.specs.Growth.{IsKept, IsRanNode, IsChosen, turned, branched_at}
+use Rattle.branch_tree.specs.Growth.{IsKept, IsRanNode, IsChosen, branched_at}
 use Rattle.branch_tree.specs.Leaving.{AreCounts, HasFreeIn, HasRan}
 use Rattle.branch_tree.specs.Reaching.{AreWeights, free_pairs}
-use Rattle.branch_tree.specs.Searching.{IsSearching, IsNextNode, IsNextPair, IsStartUnder}
+use Rattle.branch_tree.specs.Searching.{IsSearching, IsNextNode, IsNextPair, IsRootStart, IsStartUnder}
 use Rattle.price_master.specs.Laws.{DecidesFree, ForcesOnce}
 use Rattle.price_master.proofs.Decisions.{is-forced}
 use Rattle.duty_plan.specs.Nodes.{IsTree}
 use Rattle.branch_tree.proofs.ForcedOnce.{once-path, tree-once}
-use Rattle.branch_tree.proofs.Parents.{path-root, path-zero}
+use Rattle.branch_tree.proofs.Parents.{path-root}
 use Rattle.branch_tree.proofs.Weighing.{branch-weighs, root-weighs}
 use Rattle.price_master.proofs.Carried.{get-below}
 use Rattle.branch_tree.proofs.Lasting.{ran-lasts}
@@ -39,16 +38,16 @@ single : {X : Type 0} (x y : X) (n : ℕ) → slice_get (x ∷ []) n ≡ Some y 
 single x y zero h = cc
 single x y (suc n) h = cc
 
-pub root-searching : (case : Case) (limits : Limits) (plan : Plan) (cost : ℕ) (older : List Node) (start : Prices) (pairs : Pairs) (node : Node) (count : List ℕ) →
-    IsLimits limits → IsKept case plan cost → AreStartPrices case.week start → ArePairsOf case.week (Root ∷ path_of older 0) pairs →
-    HasRan case limits cost (record { pairs = pairs; bound = 0; prices = start }) node count → node.parent ≡ 0 → node.decision ≡ Root → IsPrices case.week node.prices →
-    IsSearching case limits plan cost (node ∷ []) (count ∷ [])
-root-searching case limits plan cost older start pairs node count l kept at p ran parent decision priced =
-    let none : Root ∷ path_of older 0 ≡ Root ∷ [] = ap (λ (ds : List Decision). Root ∷ ds) (path-zero (reverse older)) in
-    let one = ran (Root ∷ []) (subst (λ (ds : List Decision). ArePairsOf case.week ds pairs) none p) in record {
+pub root-searching : (case : Case) (limits : Limits) (plan : Plan) (cost : ℕ) (start : NodeStart) (node : Node) (count : List ℕ) →
+    IsLimits limits → IsKept case plan cost → IsRootStart case.week start → HasRan case limits cost start node count → node.parent ≡ 0 →
+    node.decision ≡ Root → IsPrices case.week node.prices → IsSearching case limits plan cost (node ∷ []) (count ∷ [])
+root-searching case limits plan cost start node count l kept begins ran parent decision priced =
+    let one = ran (Root ∷ []) begins.pairs in
+    let left : IsRanNode case limits cost (Root ∷ []) 0 start.prices node one.0 =
+    subst (λ (x : ℕ). IsRanNode case limits cost (Root ∷ []) x start.prices node one.0) begins.bound one.1 in record {
       runs = one.0 ∷ [];
       kept = kept;
-      growing = root_grows case limits cost start node one.0 l at parent decision one.1;
+      growing = root_grows case limits cost start.prices node one.0 l begins.prices parent decision left;
       as_many = refl;
       counted = λ n run other h i.
           subst (λ (x : List ℕ). AreCounts case.week run x) (single count other n i)

@@ -1,16 +1,11 @@
 -- Walks along a list of answers, by what is left of it; and the cells of pairs.
-use Rattle.std.proofs.Common.{◌≡◌, ◌≢◌, ◌⊎◌, inl, inr, ◌||◌, ◌&&◌, ℕ, zero, suc, ◌+◌, ◌*◌, ◌/◌, ◌%◌, ◌<◌, ◌≤◌, Bool, true, false, cond, List, [], ◌∷◌, ◌++◌, length, drop, get_or, refl, ap, sym, ◌∙◌, arith, add-one, append_assoc, ℤ}
-use Rattle.std.proofs.Math.Seq.{drop-cons}
+use Rattle.std.proofs.Common.{◌≡◌, ◌⊎◌, inl, inr, ℕ, zero, suc, ◌+◌, ◌*◌, ◌/◌, ◌%◌, ◌<◌, ◌≤◌, length, get_or, refl, ap, ◌∙◌, arith}
 use Rattle.std.proofs.lemmas.Nat.{mul-le}
 use Rattle.std.proofs.Math.Nat.{div-add-mod}
 use Rattle.week_book.specs.declared.weeks.Week.{Week}
-use Rattle.duty_plan.specs.declared.deciding.Pair.{Pair}
 use Rattle.duty_plan.specs.declared.deciding.Pair.TheVariants.{Free}
 use Rattle.duty_plan.specs.declared.deciding.Pairs.{Pairs}
-use Rattle.duty_plan.specs.declared.pricing.Priced.{Priced}
-use Rattle.duty_plan.specs.declared.pricing.Priced.TheVariants.{Least, NoDuty, Spent}
-use Rattle.duty_plan.specs.Rounds.{is_whole, is_least, has_none, is_none, values_of, value_of_answer, carriers, carries}
-use Rattle.duty_plan.specs.Values.{IsPairs, IsDecided, pair_at}
+use Rattle.duty_plan.specs.Values.{IsPairs}
 use Rattle.price_master.proofs.Lookups.{at-most}
 use Rattle.branch_tree.specs.Leaving.{HasFreeIn}
 

@@ -3,9 +3,7 @@ use Rattle.std.proofs.Common.{◌≡◌, ◌≢◌, ◌⊎◌, inl, inr, ℕ, ze
 use Rattle.std.proofs.lemmas.Bool.Decides.{nat_tests}
 use Rattle.duty_plan.specs.declared.duties.Duty.{Duty}
 use Rattle.duty_plan.specs.declared.plans.Case.{Case}
-use Rattle.duty_plan.specs.declared.plans.Plan.{Plan}
-use Rattle.duty_plan.specs.Duties.{EachOf, IsLawful, IsLawfulPlan, carried, cost_of_duties, cost_of_plan, times, worth, price_of}
-use Rattle.duty_plan.specs.Values.{cost_of_all}
+use Rattle.duty_plan.specs.Duties.{IsLawful, IsLawfulPlan, carried, cost_of_duties, cost_of_plan, times, worth, price_of}
 use Rattle.duty_plan.specs.Sums.{total_below}
 use Rattle.duty_plan.proofs.Sums.{times-append, worth-append}
 use Rattle.duty_plan.proofs.Home.{replicate_at, length_replicated}

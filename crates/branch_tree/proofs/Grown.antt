@@ -1,28 +1,21 @@
 -- A grown tree, with its leaves settled, shows that the outcome is right.
-use Rattle.std.proofs.Common.{◌≡◌, ◌≢◌, ◌⊎◌, inl, inr, ℕ, zero, suc, pred, ◌+◌, ◌<◌, ◌≤◌, Bool, true, false, List, [], ◌∷◌, length, map, refl, ap, sym, subst, ◌∙◌, arith, Some, slice_get}
-use Rattle.duty_plan.specs.declared.plans.Case.{Case}
-use Rattle.duty_plan.specs.declared.plans.Plan.{Plan}
-use Rattle.duty_plan.specs.declared.outcomes.Limits.{Limits}
-use Rattle.duty_plan.specs.declared.outcomes.State.{State}
-use Rattle.duty_plan.specs.declared.outcomes.State.TheVariants.{Proved, OpenLabels, OpenNodes}
+use Rattle.std.proofs.Common.{◌≡◌, ◌⊎◌, inl, inr, ℕ, suc, pred, ◌+◌, ◌<◌, ◌≤◌, Bool, true, false, List, length, map, refl, ap, sym, subst, ◌∙◌, arith, Some, slice_get}
+use Rattle.duty_plan.specs.declared.outcomes.State.TheVariants.{OpenLabels}
 use Rattle.duty_plan.specs.declared.nodes.Decision.{Decision}
-use Rattle.duty_plan.specs.declared.nodes.Decision.TheVariants.{Root, Forced as forces, Barred as bars}
+use Rattle.duty_plan.specs.declared.nodes.Decision.TheVariants.{Forced as forces}
 use Rattle.duty_plan.specs.declared.nodes.Node.{Node}
-use Rattle.duty_plan.specs.declared.nodes.NodeState.{NodeState}
-use Rattle.duty_plan.specs.declared.nodes.NodeState.TheVariants.{Branched, Closed, Empty, Open, Spent}
-use Rattle.duty_plan.specs.Values.{cost_of_all, decided_by}
+use Rattle.duty_plan.specs.declared.nodes.NodeState.TheVariants.{Closed, Open, Spent}
+use Rattle.duty_plan.specs.Values.{decided_by}
 use Rattle.duty_plan.specs.Rounds.{Round, has_none}
-use Rattle.duty_plan.specs.Nodes.{path_of, IsNode, IsTree, HasChildren, IsFreeAt}
+use Rattle.duty_plan.specs.Nodes.{path_of, IsNode, IsTree}
 use Rattle.duty_plan.specs.Branching.{IsBestFirst, HasIncumbentCosts, IsBranchingPair, IsCandidate}
-use Rattle.duty_plan.specs.Trees.{HasRun, BeatsDuties, IsState, IsRight, HasLeaf, EndsEmpty, EndsSpent}
-use Rattle.duty_plan.proofs.Lists.{slice_get-lt}
-use Rattle.price_master.proofs.Carried.{get-below}
+use Rattle.duty_plan.specs.Trees.{HasRun, BeatsDuties, IsState, HasLeaf, EndsEmpty, EndsSpent}
 use Rattle.price_master.proofs.Lookups.{length-map_lem}
-use Rattle.branch_tree.specs.Growth.{IsKept, IsGrowing, IsHeld, IsGrown, settled, outcome_of, state_of, least_bound, has_open, has_unsettled, is_unsettled, is_open, HasFreeOn}
+use Rattle.branch_tree.specs.Growth.{IsHeld, IsGrown, settled, state_of, least_bound, has_open, is_unsettled, is_open, HasFreeOn}
 use Rattle.branch_tree.specs.GrowthLaws.{GrownIsRight}
-use Rattle.branch_tree.proofs.Parents.{root-or-later}
-use Rattle.branch_tree.proofs.Sameness.{IsLike, Extends, node-below, one-node, like-back, tree-earlier, path-like, run-like, pick-like, children-like}
-use Rattle.branch_tree.proofs.Settling.{IsAmong, IsSettled, is_settled, settled-extends, settled-back, was-branched, stays-branched, stays-empty, is-open, is-unsettled, unsettled-is, open-there, open-has, unsettled-there, unsettled-has, least-below, least-from, least-none, IsLeastLeaf, state-open, open-state, state-labels, labels-state, state-proved, unproved-some}
+use Rattle.branch_tree.proofs.Sameness.{IsLike, Extends, node-below, tree-earlier, path-like, run-like, pick-like, children-like}
+use Rattle.branch_tree.proofs.Settling.{IsSettled, settled-extends, settled-back, was-branched, stays-branched, stays-empty}
+use Rattle.branch_tree.proofs.EndStates.{IsAmong, is-open, is-unsettled, unsettled-is, open-there, open-has, unsettled-there, unsettled-has, least-below, least-from, least-none, IsLeastLeaf, state-open, open-state, state-labels, labels-state, state-proved, unproved-some}
 
 -- a Spent run doesn't end empty
 spent-full : (run : List Round) → EndsSpent run → EndsEmpty run → ⊥

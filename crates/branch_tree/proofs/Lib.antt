@@ -12,11 +12,18 @@ pub mod Sameness
 pub mod Lasting
 pub mod Rooting
 pub mod Turning
+pub mod BranchedShape
+pub mod BranchedRuns
+pub mod BranchedCosts
+pub mod BranchedBest
+pub mod BranchedPairs
 pub mod BranchingTree
 pub mod Settling
+pub mod EndStates
 pub mod Grown
 pub mod Running
 pub mod Walking
+pub mod RoundCounts
 pub mod Leaving
 pub mod Dropping
 pub mod RoundFacts
@@ -29,4 +36,5 @@ pub mod Resting
 pub mod PooledRounds
 pub mod FreePairs
 pub mod Weighing
+pub mod Fitting
 pub mod Reached

@@ -1,12 +1,8 @@
 -- Which node and which pair come first.
-use Rattle.std.proofs.Common.{◌≡◌, ◌≢◌, ◌⊎◌, inl, inr, ℕ, zero, suc, pred, ◌+◌, ◌<◌, ◌≤◌, Bool, true, false, List, length, get_or, refl, ap, sym, subst, ◌∙◌, arith, Option, Some, None, slice_get}
-use Rattle.std.proofs.lemmas.Option.{slice_get_read}
+use Rattle.std.proofs.Common.{◌≡◌, ◌≢◌, ◌⊎◌, inl, inr, ℕ, suc, ◌+◌, ◌<◌, ◌≤◌, List, refl, ap, sym, ◌∙◌, arith, Option, Some, None, slice_get}
 use Rattle.duty_plan.specs.declared.nodes.Node.{Node}
 use Rattle.duty_plan.specs.declared.nodes.NodeState.TheVariants.{Open}
-use Rattle.duty_plan.specs.Nodes.{IsNode}
-use Rattle.duty_plan.proofs.Lists.{slice_get-lt}
-use Rattle.price_master.proofs.Lookups.{same-or-not, at-most}
-use Rattle.branch_tree.specs.Searching.{IsNextNode, HasNoNext}
+use Rattle.price_master.proofs.Lookups.{same-or-not}
 
 -- of the first n nodes, the open leaf of the least bound below the cost, the first of that bound
 pub record IsBest (cost : ℕ) (tree : List Node) (n least number : ℕ) : Type 0 where

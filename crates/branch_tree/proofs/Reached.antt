@@ -1,5 +1,5 @@
 -- Within reach a search ends proved: no Open leaf is left where two more nodes fit, and no round answers Spent.
-use Rattle.std.proofs.Common.{◌≡◌, ◌≢◌, ◌⊎◌, inl, inr, ℕ, zero, suc, pred, ◌+◌, ◌-◌, ◌*◌, ◌^◌, ◌<◌, ◌≤◌, Bool, true, false, ◌||◌, List, [], ◌∷◌, length, map, refl, ap, sym, subst, ◌∙◌, arith, Some, slice_get}
+use Rattle.std.proofs.Common.{◌≡◌, inl, inr, ℕ, suc, pred, ◌+◌, ◌≤◌, true, List, [], ◌∷◌, length, map, refl, ap, sym, subst, ◌∙◌, arith, Some, slice_get}
 use Rattle.std.specs.Prelude.{IfOk, Result, Ok, Err}
 use Rattle.minute_line.specs.declared.many.Memory.{Memory}
 use Rattle.duty_plan.specs.declared.plans.Case.{Case}
@@ -14,17 +14,16 @@ use Rattle.duty_plan.specs.declared.deciding.Pairs.{Pairs}
 use Rattle.duty_plan.specs.declared.pricing.Prices.{Prices}
 use Rattle.duty_plan.specs.declared.pricing.Priced.{Priced}
 use Rattle.duty_plan.specs.declared.pricing.Priced.TheVariants.{Least, NoDuty, Spent as SpentAnswer}
-use Rattle.duty_plan.specs.LabelLists.{FillChunks, MayExhaustLabels, chunks_for}
-use Rattle.duty_plan.specs.Nodes.{IsNode}
-use Rattle.duty_plan.specs.Rounds.{has_spent, is_spent}
+use Rattle.duty_plan.specs.LabelLists.{MayExhaustLabels, chunks_for}
+use Rattle.duty_plan.specs.Rounds.{has_spent}
 use Rattle.duty_plan.specs.Trees.{HasLeaf, IsRight}
 use Rattle.duty_plan.proofs.Lists.{slice_get-lt}
-use Rattle.price_master.proofs.Carried.{get-below, or_cases}
+use Rattle.price_master.proofs.Carried.{get-below}
 use Rattle.branch_tree.specs.Growth.{IsGrown, outcome_of, settled}
 use Rattle.branch_tree.specs.Reaching.{AreWeights, IsWithinReach}
 use Rattle.branch_tree.specs.Searching.{IsSearching}
 use Rattle.branch_tree.proofs.SearchFacts.{right}
-use Rattle.branch_tree.proofs.Weighing.{settled-weighs, two-fit}
+use Rattle.branch_tree.proofs.Fitting.{settled-weighs, two-fit}
 
 -- an answer that says Spent
 spent-there : (answers : List Priced) → has_spent answers ≡ true → (k : ℕ) × (stored : ℕ) × (slice_get answers k ≡ Some (SpentAnswer stored))

@@ -1,7 +1,6 @@
 -- The prices and the bound that a run leaves.
 use Rattle.std.proofs.Common.{◌≡◌, ◌⊎◌, inl, inr, ℕ, zero, suc, ◌≤◌, List, sym, subst, arith, Some, slice_get}
 use Rattle.duty_plan.specs.declared.plans.Case.{Case}
-use Rattle.duty_plan.specs.declared.deciding.Pairs.{Pairs}
 use Rattle.duty_plan.specs.declared.nodes.NodeStart.{NodeStart}
 use Rattle.duty_plan.specs.declared.plans.Plan.{Plan}
 use Rattle.duty_plan.specs.declared.pricing.Prices.{Prices}

@@ -1,15 +1,12 @@
 -- The rounds of a node, one after another.
-use Rattle.std.proofs.Common.{◌≡◌, ◌≢◌, ◌⊎◌, inl, inr, ℕ, zero, suc, pred, ◌+◌, ◌<◌, ◌≤◌, Bool, true, false, List, [], ◌∷◌, ◌++◌, length, refl, ap, sym, subst, ◌∙◌, arith, Some, slice_get, length-append}
-use Rattle.week_book.specs.declared.weeks.Week.{Week}
+use Rattle.std.proofs.Common.{◌≡◌, ◌⊎◌, inl, inr, ℕ, suc, pred, ◌<◌, ◌≤◌, true, List, [], ◌∷◌, ◌++◌, length, refl, ap, sym, subst, ◌∙◌, arith, Some, slice_get}
 use Rattle.duty_plan.specs.declared.plans.Case.{Case}
-use Rattle.duty_plan.specs.declared.deciding.Pairs.{Pairs}
 use Rattle.duty_plan.specs.declared.nodes.NodeStart.{NodeStart}
 use Rattle.duty_plan.specs.declared.pricing.Prices.{Prices}
-use Rattle.duty_plan.specs.declared.pricing.Priced.{Priced}
 use Rattle.duty_plan.specs.Values.{IsDecided}
-use Rattle.duty_plan.specs.Rounds.{Round, IsRound, ArePricingRounds, IsBest, IsFirstAt, AreNextPrices, carriers, is_whole, value_of_round}
+use Rattle.duty_plan.specs.Rounds.{Round, IsRound, IsBest, IsFirstAt, AreNextPrices, carriers, is_whole, value_of_round}
 use Rattle.duty_plan.proofs.Lists.{slice_get-lt}
-use Rattle.price_master.proofs.Lookups.{get-before, get-after, at-most, split, EarlierOrLast, last-there, one-more}
+use Rattle.price_master.proofs.Lookups.{get-before, at-most, split, EarlierOrLast, last-there, one-more}
 use Rattle.branch_tree.specs.Running.{ArePricingRoundsSoFar, IsRaised, RunBegins, RoundAdds, PartEnds, WholeEnds}
 
 pub run_begins : RunBegins

@@ -1,6 +1,6 @@
 -- A tree whose nodes keep their parents, decisions, prices and bounds, whatever states they take and whatever nodes
 -- follow: its paths, runs and picks last.
-use Rattle.std.proofs.Common.{◌≡◌, ◌≢◌, ◌⊎◌, inl, inr, ℕ, zero, suc, pred, ◌+◌, ◌<◌, ◌≤◌, Bool, true, false, List, [], ◌∷◌, length, reverse, refl, ap, sym, subst, ◌∙◌, arith, Some, slice_get}
+use Rattle.std.proofs.Common.{◌≡◌, ◌≢◌, ◌⊎◌, inl, inr, ℕ, zero, suc, pred, ◌+◌, ◌<◌, ◌≤◌, List, ◌∷◌, length, reverse, ap, sym, subst, ◌∙◌, arith}
 use Rattle.week_book.specs.declared.weeks.Week.{Week}
 use Rattle.duty_plan.specs.declared.plans.Case.{Case}
 use Rattle.duty_plan.specs.declared.outcomes.Limits.{Limits}
@@ -10,7 +10,7 @@ use Rattle.duty_plan.specs.declared.pricing.Prices.{Prices}
 use Rattle.duty_plan.specs.Values.{ArePairsOf, decided_by}
 use Rattle.duty_plan.specs.LabelLists.{chunks_for}
 use Rattle.duty_plan.specs.Rounds.{Round, ArePricingRounds}
-use Rattle.duty_plan.specs.Nodes.{path_of, IsNode, IsTree, HasChildren, IsFreeAt, HasFree}
+use Rattle.duty_plan.specs.Nodes.{path_of, IsNode, IsTree, HasChildren, IsFreeAt}
 use Rattle.duty_plan.specs.Branching.{IsBranchingPair, ViolatesCover}
 use Rattle.duty_plan.specs.Trees.{HasRun}
 use Rattle.duty_plan.proofs.Lists.{slice_get-lt}

@@ -1,33 +1,25 @@
 -- The plans of a whole round: that of one duty, and that of all least duties.
-use Rattle.std.proofs.Common.{◌≡◌, ◌≢◌, ◌⊎◌, inl, inr, ℕ, zero, suc, ◌+◌, ◌<◌, ◌≤◌, Bool, true, false, cond, List, [], ◌∷◌, ◌++◌, length, reverse, refl, ap, sym, subst, ◌∙◌, arith, eqb, ℤ, Some, slice_get}
-use Rattle.std.proofs.lemmas.Bool.Decides.{nat_tests}
+use Rattle.std.proofs.Common.{◌≡◌, ◌≢◌, ◌⊎◌, inl, inr, ℕ, zero, suc, ◌≤◌, true, List, [], ◌∷◌, ap, sym, subst, ◌∙◌, arith, ℤ, Some, slice_get}
 use Rattle.duty_plan.specs.declared.duties.Duty.{Duty}
-use Rattle.duty_plan.specs.declared.duties.Step.{Step}
 use Rattle.duty_plan.specs.declared.plans.Case.{Case}
 use Rattle.duty_plan.specs.declared.plans.Plan.{Plan}
 use Rattle.duty_plan.specs.declared.deciding.Pairs.{Pairs}
 use Rattle.duty_plan.specs.declared.pricing.Prices.{Prices}
 use Rattle.duty_plan.specs.declared.pricing.Priced.{Priced}
 use Rattle.duty_plan.specs.declared.pricing.Priced.TheVariants.{Least, NoDuty, Spent}
-use Rattle.duty_plan.specs.PartialDuties.{PartialDuty, place_after, serves}
-use Rattle.duty_plan.specs.Duties.{EachOf, IsLawful, IsLawfulPartialDuty, IsLawfulPlan, partial_of, orders_of, carried, times, cost_of_plan}
+use Rattle.duty_plan.specs.Duties.{IsLawfulPlan, cost_of_plan}
 use Rattle.duty_plan.specs.Values.{IsDecided, IsLeast, lagrangian}
 use Rattle.duty_plan.specs.Rounds.{IsRound, is_whole, values_of}
 use Rattle.duty_plan.specs.Trees.{IsSingleDutyPlan, BeatsDuty}
-use Rattle.duty_plan.proofs.Carrying.{served-once}
-use Rattle.duty_plan.proofs.Lists.{slice_get-lt}
 use Rattle.price_master.specs.Laws.{ForcesOnce, IsLeastPlan}
-use Rattle.price_master.proofs.Once.{carried-once}
 use Rattle.price_master.proofs.Whole.{whole-values}
 use Rattle.price_master.proofs.Decided.{is_exact}
-use Rattle.price_master.proofs.Lone.{costs_alone}
 use Rattle.price_master.proofs.Lookups.{same-or-not}
 use Rattle.price_master.specs.declared.picking.Picked.{Picked}
 use Rattle.price_master.specs.declared.picking.Picked.TheVariants.{Least as PickedLeast, Cut as PickedCut}
 use Rattle.price_master.specs.declared.pooling.Pooled.{Pooled}
 use Rattle.price_master.specs.Completing.{IsRest}
 use Rattle.price_master.specs.Pools.{IsCutPlan, IsLeastPooled, IsPicked, IsPooled}
-use Rattle.price_master.proofs.Rests.{completed-lawful, empty-lawful}
 use Rattle.branch_tree.specs.Taking.{AreDutiesOf}
 
 -- a plan that was picked from a pool costs no more than any plan of one pooled duty

@@ -1,6 +1,6 @@
 -- A tree while it grows: what holds of it between two branchings, and what it comes to at the end. The states of its
 -- nodes are those that no fall of the kept cost changes; at the end each leaf whose bound has reached the cost is closed.
-use Rattle.std.specs.Prelude.{◌≡◌, ◌≢◌, ◌⊎◌, ℕ, pred, ◌+◌, ◌<◌, ◌≤◌, Bool, true, false, ◌&&◌, ◌||◌, nat_le, if◌then◌else◌, List, [], ◌∷◌, ◌++◌, length, map, set, Some, slice_get}
+use Rattle.std.specs.Prelude.{◌≡◌, ◌≢◌, ◌⊎◌, ℕ, pred, ◌+◌, ◌<◌, ◌≤◌, Bool, true, false, ◌&&◌, ◌||◌, nat_le, if◌then◌else◌, List, [], ◌∷◌, ◌++◌, length, set, Some, slice_get}
 use Rattle.week_book.specs.declared.weeks.Week.{Week}
 use Rattle.duty_plan.specs.declared.plans.Case.{Case}
 use Rattle.duty_plan.specs.declared.plans.Plan.{Plan}
@@ -9,19 +9,17 @@ use Rattle.duty_plan.specs.declared.outcomes.Outcome.{Outcome}
 use Rattle.duty_plan.specs.declared.outcomes.State.{State}
 use Rattle.duty_plan.specs.declared.outcomes.State.TheVariants.{Proved, OpenLabels, OpenNodes}
 use Rattle.duty_plan.specs.declared.nodes.Decision.{Decision}
-use Rattle.duty_plan.specs.declared.nodes.Decision.TheVariants.{Root, Forced as forces, Barred as bars}
 use Rattle.duty_plan.specs.declared.nodes.Node.{Node}
 use Rattle.duty_plan.specs.declared.nodes.NodeState.{NodeState}
 use Rattle.duty_plan.specs.declared.nodes.NodeState.TheVariants.{Branched, Closed, Empty, Open, Spent}
 use Rattle.duty_plan.specs.declared.deciding.Pair.TheVariants.{Free}
 use Rattle.duty_plan.specs.declared.deciding.Pairs.{Pairs}
 use Rattle.duty_plan.specs.declared.pricing.Prices.{Prices}
-use Rattle.duty_plan.specs.Duties.{IsLawfulPlan, cost_of_plan}
 use Rattle.duty_plan.specs.Values.{ArePairsOf, cost_of_all, decided_by}
 use Rattle.duty_plan.specs.LabelLists.{chunks_for}
 use Rattle.duty_plan.specs.Rounds.{Round, ArePricingRounds}
 use Rattle.duty_plan.specs.Nodes.{path_of, IsNode, IsTree}
-use Rattle.duty_plan.specs.Branching.{IsBestFirst, HasIncumbentCosts, IsBranchingPair}
+use Rattle.duty_plan.specs.Branching.{IsBranchingPair}
 use Rattle.duty_plan.specs.Trees.{HasRun, BeatsDuties, EndsEmpty, EndsSpent, IsBranchedByRule, IsPlanAtCost}
 
 -- the kept plan is lawful, costs so much, and no more than giving all orders away

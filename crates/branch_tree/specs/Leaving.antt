@@ -1,5 +1,5 @@
 -- What a node's rounds keep while they run, and the leaf that they leave.
-use Rattle.std.specs.Prelude.{◌≡◌, ◌≢◌, ℕ, ◌<◌, ◌≤◌, Bool, true, false, nat_le, if◌then◌else◌, List, [], ◌∷◌, ◌++◌, length, Some, slice_get, slice_index, ℤ}
+use Rattle.std.specs.Prelude.{◌≡◌, ◌≢◌, ℕ, ◌<◌, ◌≤◌, Bool, if◌then◌else◌, List, length, Some, slice_get, slice_index, ℤ}
 use Rattle.week_book.specs.declared.weeks.Week.{Week}
 use Rattle.duty_plan.specs.declared.plans.Case.{Case}
 use Rattle.duty_plan.specs.declared.duties.Duty.{Duty}
@@ -8,7 +8,7 @@ use Rattle.duty_plan.specs.declared.nodes.Decision.{Decision}
 use Rattle.duty_plan.specs.declared.nodes.Node.{Node}
 use Rattle.duty_plan.specs.declared.nodes.NodeStart.{NodeStart}
 use Rattle.duty_plan.specs.declared.nodes.NodeState.{NodeState}
-use Rattle.duty_plan.specs.declared.nodes.NodeState.TheVariants.{Branched, Closed, Empty, Open, Spent}
+use Rattle.duty_plan.specs.declared.nodes.NodeState.TheVariants.{Closed, Empty, Open, Spent}
 use Rattle.duty_plan.specs.declared.deciding.Pair.TheVariants.{Free}
 use Rattle.duty_plan.specs.declared.deciding.Pairs.{Pairs}
 use Rattle.duty_plan.specs.declared.pricing.Prices.{Prices}
@@ -16,7 +16,7 @@ use Rattle.duty_plan.specs.declared.pricing.Priced.{Priced}
 use Rattle.duty_plan.specs.declared.pricing.Priced.TheVariants.{Least}
 use Rattle.duty_plan.specs.Values.{ArePairsOf, IsDecided, pair_at, lagrangian}
 use Rattle.duty_plan.specs.LabelLists.{chunks_for}
-use Rattle.duty_plan.specs.Rounds.{Round, IsRound, is_whole, values_of}
+use Rattle.duty_plan.specs.Rounds.{Round, values_of}
 use Rattle.duty_plan.specs.Branching.{ViolatesCover}
 use Rattle.duty_plan.specs.Trees.{BeatsDuty, BeatsDuties}
 use Rattle.price_master.specs.Laws.{ForcesOnce}

@@ -1,8 +1,6 @@
 -- The rounds of a node while they run: those so far are whole, and the next one's prices are known.
-use Rattle.std.specs.Prelude.{◌≡◌, ◌⊎◌, ℕ, suc, pred, ◌<◌, ◌≤◌, true, false, List, [], ◌∷◌, ◌++◌, length, Some, slice_get}
-use Rattle.week_book.specs.declared.weeks.Week.{Week}
+use Rattle.std.specs.Prelude.{◌≡◌, ◌⊎◌, ℕ, suc, ◌<◌, ◌≤◌, true, false, List, [], ◌∷◌, ◌++◌, length, Some, slice_get}
 use Rattle.duty_plan.specs.declared.plans.Case.{Case}
-use Rattle.duty_plan.specs.declared.deciding.Pairs.{Pairs}
 use Rattle.duty_plan.specs.declared.nodes.NodeStart.{NodeStart}
 use Rattle.duty_plan.specs.declared.pricing.Prices.{Prices}
 use Rattle.duty_plan.specs.declared.pricing.Priced.{Priced}

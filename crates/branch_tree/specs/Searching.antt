@@ -1,10 +1,11 @@
 -- What a search keeps between two branchings, and which node and pair are next.
-use Rattle.std.specs.Prelude.{◌≡◌, ◌≢◌, ◌⊎◌, ℕ, ◌<◌, ◌≤◌, Bool, true, List, ◌∷◌, length, Option, Some, None, slice_get, slice_index}
+use Rattle.std.specs.Prelude.{◌≡◌, ◌≢◌, ◌⊎◌, ℕ, ◌<◌, ◌≤◌, Bool, true, List, [], ◌∷◌, length, Option, Some, None, slice_get, slice_index}
 use Rattle.week_book.specs.declared.weeks.Week.{Week}
 use Rattle.duty_plan.specs.declared.plans.Case.{Case}
 use Rattle.duty_plan.specs.declared.plans.Plan.{Plan}
 use Rattle.duty_plan.specs.declared.outcomes.Limits.{Limits}
 use Rattle.duty_plan.specs.declared.nodes.Decision.{Decision}
+use Rattle.duty_plan.specs.declared.nodes.Decision.TheVariants.{Root}
 use Rattle.duty_plan.specs.declared.nodes.Node.{Node}
 use Rattle.duty_plan.specs.declared.nodes.NodeStart.{NodeStart}
 use Rattle.duty_plan.specs.declared.nodes.NodeState.TheVariants.{Open}
@@ -13,6 +14,7 @@ use Rattle.duty_plan.specs.declared.deciding.Pairs.{Pairs}
 use Rattle.duty_plan.specs.Values.{ArePairsOf, IsPrices, pair_at}
 use Rattle.duty_plan.specs.Rounds.{Round}
 use Rattle.duty_plan.specs.Nodes.{IsNode, path_of}
+use Rattle.duty_plan.specs.Trees.{AreStartPrices}
 use Rattle.branch_tree.specs.Growth.{IsKept, IsGrowing, IsNext}
 use Rattle.branch_tree.specs.Leaving.{AreCounts}
 use Rattle.branch_tree.specs.Reaching.{AreWeights}
@@ -36,6 +38,12 @@ pub record IsNextNode (cost : ℕ) (tree : List Node) (number : ℕ) : Type 0 wh
   pub open_leaf : node.state ≡ Open
   pub below : node.bound < cost
   pub next : IsNext cost tree number node
+
+-- the root begins so: nothing is decided, its bound is 0, and its prices are the start prices
+pub record IsRootStart (week : Week) (start : NodeStart) : Type 0 where
+  pub pairs : ArePairsOf week (Root ∷ []) start.pairs
+  pub bound : start.bound ≡ 0
+  pub prices : AreStartPrices week start.prices
 
 -- a child of the node of that number begins so: at the pairs of its path, with the node's bound and prices
 pub record IsStartUnder (week : Week) (tree : List Node) (number : ℕ) (decision : Decision) (start : NodeStart) : Type 0 where

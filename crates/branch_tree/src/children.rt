@@ -16,8 +16,8 @@ use crate::choosing::next_pair;
 use crate::keeping::Kept;
 use crate::leaves::copied;
 use crate::pairing::{pairs_of, pairs_under};
-use crate::rounds::{Leaf, run_node};
-use duty_plan::{Case, Decision, Gate, Limits, Node, NodeStart, Pricer};
+use crate::rounds::{Leaf, Task, run_node};
+use duty_plan::{Decision, Gate, Node, NodeStart, Pricer};
 use minute_line::{Many, Memory};
 use std::alloc::Global;
 use std::thread::Threads;
@@ -46,70 +46,46 @@ fn start_under(
 
 /// The children of the node of that number, each after its rounds: the forcing one, then the barring one.
 pub(crate) fn children<R: Threads + Sync, G: Gate + Sync, P: Pricer>(
-    rt: &R,
-    gate: &G,
-    alloc: Global,
-    case: &Case,
-    limits: &Limits,
+    task: &Task<'_, R, G>,
     pricer: &mut P,
     kept: &mut Kept,
     tree: &[Node],
     counts: &[Many<u32>],
     number: u32,
 ) -> Result<(Leaf, Leaf), Memory>
-    requires case { IsCase case.now }
-    requires limits { IsLimits limits.now }
-    requires chunks { P.chunks pricer.old ≡ chunks_for limits.now.labels }
-    requires kept { IsKept case.now kept.old.plan kept.old.cost }
-    requires pool { IsPool case.now kept.old.pool }
+    requires case { IsCase task.now.case.now }
+    requires limits { IsLimits task.now.limits.now }
+    requires chunks { P.chunks pricer.old ≡ chunks_for task.now.limits.now.labels }
+    requires kept { IsKept task.now.case.now kept.old.plan kept.old.cost }
+    requires pool { IsPool task.now.case.now kept.old.pool }
     requires number { (1 ≤ number) × (number ≤ length tree.now) }
     requires parents { HasEarlierParents tree.now }
-    requires priced { (k : ℕ) (node : GhostNode) → IsNode tree.now k node → IsPrices case.now.week node.prices }
+    requires priced { (k : ℕ) (node : GhostNode) → IsNode tree.now k node → IsPrices task.now.case.now.week node.prices }
     requires as_many { length counts.now ≡ length tree.now }
-    requires counted { (n : ℕ) (count : List ℕ) → slice_get counts.now n ≡ Some count → length count ≡ length case.now.week.orders }
-    requires search { IsSearching case.now limits.now kept.old.plan kept.old.cost tree.now counts.now }
+    requires counted { (n : ℕ) (count : List ℕ) → slice_get counts.now n ≡ Some count → length count ≡ length task.now.case.now.week.orders }
+    requires search { IsSearching task.now.case.now task.now.limits.now kept.old.plan kept.old.cost tree.now counts.now }
     requires next { IsNextNode kept.old.cost tree.now number }
-    requires room { length tree.now + 2 ≤ limits.now.nodes }
+    requires room { length tree.now + 2 ≤ task.now.limits.now.nodes }
     ensures grows { IfOk result (λ leaves. (node : GhostNode) → IsNode tree.now number node →
-        IsSearching case.now limits.now kept.new.plan kept.new.cost (branched_at tree.now number kept.old.cost node leaves.0.node leaves.1.node)
-        (counts.now ++ leaves.0.counts ∷ leaves.1.counts ∷ [])) }
-    ensures kept { IsKept case.now kept.new.plan kept.new.cost }
+        IsSearching task.now.case.now task.now.limits.now kept.new.plan kept.new.cost
+        (branched_at tree.now number kept.old.cost node leaves.0.node leaves.1.node) (counts.now ++ leaves.0.counts ∷ leaves.1.counts ∷ [])) }
+    ensures kept { IsKept task.now.case.now kept.new.plan kept.new.cost }
     ensures falls { kept.new.cost ≤ kept.old.cost }
-    ensures pool { IsPool case.now kept.new.pool }
+    ensures pool { IsPool task.now.case.now kept.new.pool }
     ensures chunks { P.chunks pricer.new ≡ P.chunks pricer.old }
 {
+    let alloc = task.alloc;
+    let week = &task.case.week;
     let count = &counts[number as usize - 1];
-    let here = pairs_of(alloc, &case.week, tree, number)?;
-    let Some((driver, order)) = next_pair(&case.week, &here, count.as_slice()) else {
+    let here = pairs_of(alloc, week, tree, number)?;
+    let Some((driver, order)) = next_pair(week, &here, count.as_slice()) else {
         unreachable!()
     };
     let force = Decision::Forced(driver, order);
     let bar = Decision::Barred(driver, order);
-    let forced = start_under(alloc, &case.week, tree, number, force)?;
-    let barred = start_under(alloc, &case.week, tree, number, bar)?;
-    let one = run_node(
-        rt,
-        gate,
-        alloc,
-        case,
-        limits,
-        pricer,
-        kept,
-        &forced,
-        number,
-        force,
-    )?;
-    let two = run_node(
-        rt,
-        gate,
-        alloc,
-        case,
-        limits,
-        pricer,
-        kept,
-        &barred,
-        number,
-        bar,
-    )?;
+    let forced = start_under(alloc, week, tree, number, force)?;
+    let barred = start_under(alloc, week, tree, number, bar)?;
+    let one = run_node(task, pricer, kept, &forced, number, force)?;
+    let two = run_node(task, pricer, kept, &barred, number, bar)?;
     Ok((one, two))
 }

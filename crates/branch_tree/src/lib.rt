@@ -13,6 +13,8 @@ mod pairing;
 mod rounds;
 mod searching;
 mod taking;
+#[cfg(test)]
+mod tests;
 
 pub use laws::{
     branching_grows, forces_once, grown_is_right, growth_lasts, keeps_runs, no_cheaper, paths_last,

@@ -51,36 +51,44 @@ fn leaf_of(
     }
 }
 
+/// What all rounds of a search share: who runs them, and the case and the limits that they are for.
+#[derive(Drop)]
+pub(crate) struct Task<'a, R, G> {
+    pub rt: &'a R,
+    pub gate: &'a G,
+    pub alloc: Global,
+    pub case: &'a Case,
+    pub limits: &'a Limits,
+}
+
 /// Runs the rounds of a node that begins so.
 pub(crate) fn run_node<R: Threads + Sync, G: Gate + Sync, P: Pricer>(
-    rt: &R,
-    gate: &G,
-    alloc: Global,
-    case: &Case,
-    limits: &Limits,
+    task: &Task<'_, R, G>,
     pricer: &mut P,
     kept: &mut Kept,
     start: &NodeStart,
     parent: u32,
     decision: Decision,
 ) -> Result<Leaf, Memory>
-    requires case { IsCase case.now }
-    requires limits { IsLimits limits.now }
-    requires chunks { P.chunks pricer.old ≡ chunks_for limits.now.labels }
-    requires pairs { IsPairs case.now.week start.now.pairs }
-    requires prices { IsPrices case.now.week start.now.prices }
-    requires once { ForcesOnce case.now.week start.now.pairs }
-    requires kept { IsKept case.now kept.old.plan kept.old.cost }
-    requires pool { IsPool case.now kept.old.pool }
-    ensures ran { IfOk result (λ leaf. HasRan case.now limits.now kept.new.cost start.now leaf.node leaf.counts) }
+    requires case { IsCase task.now.case.now }
+    requires limits { IsLimits task.now.limits.now }
+    requires chunks { P.chunks pricer.old ≡ chunks_for task.now.limits.now.labels }
+    requires pairs { IsPairs task.now.case.now.week start.now.pairs }
+    requires prices { IsPrices task.now.case.now.week start.now.prices }
+    requires once { ForcesOnce task.now.case.now.week start.now.pairs }
+    requires kept { IsKept task.now.case.now kept.old.plan kept.old.cost }
+    requires pool { IsPool task.now.case.now kept.old.pool }
+    ensures ran { IfOk result (λ leaf. HasRan task.now.case.now task.now.limits.now kept.new.cost start.now leaf.node leaf.counts) }
     ensures parent { IfOk result (λ leaf. leaf.node.parent ≡ parent) }
     ensures decision { IfOk result (λ leaf. leaf.node.decision ≡ decision) }
-    ensures prices { IfOk result (λ leaf. IsPrices case.now.week leaf.node.prices) }
-    ensures kept { IsKept case.now kept.new.plan kept.new.cost }
+    ensures prices { IfOk result (λ leaf. IsPrices task.now.case.now.week leaf.node.prices) }
+    ensures kept { IsKept task.now.case.now kept.new.plan kept.new.cost }
     ensures falls { kept.new.cost ≤ kept.old.cost }
-    ensures pool { IsPool case.now kept.new.pool }
+    ensures pool { IsPool task.now.case.now kept.new.pool }
     ensures chunks { P.chunks pricer.new ≡ P.chunks pricer.old }
 {
+    let alloc = task.alloc;
+    let case = task.case;
     let decided = is_decided(&case.week, &start.pairs);
     let mut bound = start.bound;
     let mut prices = copied(alloc, &start.prices)?;
@@ -88,7 +96,7 @@ pub(crate) fn run_node<R: Threads + Sync, G: Gate + Sync, P: Pricer>(
     let mut carried = evens(alloc, &case.week)?;
     let mut k = 0;
     loop {
-        let answers = pricer.round(rt, gate, alloc, case, &start.pairs, &now)?;
+        let answers = pricer.round(task.rt, task.gate, alloc, case, &start.pairs, &now)?;
         if !is_whole(answers.as_slice()) {
             let state = state_of(has_none(answers.as_slice()), kept.cost <= bound, decided);
             return Ok(leaf_of(parent, decision, prices, bound, state, carried));
@@ -101,7 +109,7 @@ pub(crate) fn run_node<R: Threads + Sync, G: Gate + Sync, P: Pricer>(
             bound = value;
             prices = copied(alloc, &now)?;
         }
-        if k + 1 == limits.rounds || decided || kept.cost <= bound {
+        if k + 1 == task.limits.rounds || decided || kept.cost <= bound {
             let state = state_of(false, kept.cost <= bound, decided);
             return Ok(leaf_of(parent, decision, prices, bound, state, carried));
         }

@@ -1,22 +1,37 @@
 // The search.
 ghost use Rattle.std.specs.Prelude.{◌≡◌, IfOk};
+ghost use Rattle.week_book.specs.Weeks.{IsWeek};
 ghost use Rattle.duty_plan.specs.Duties.{IsCase};
 ghost use Rattle.duty_plan.specs.LabelLists.{chunks_for};
 ghost use Rattle.duty_plan.specs.Trees.{IsLimits, IsRight};
 ghost use Rattle.duty_plan.specs.declared.outcomes.State.TheVariants.{Proved};
 ghost use Rattle.branch_tree.specs.Reaching.{IsWithinReach};
+ghost use Rattle.branch_tree.specs.Searching.{IsRootStart};
 
 use crate::children::children;
 use crate::choosing::next_node;
 use crate::ending::{finish, turned_node};
 use crate::keeping::first_kept;
 use crate::pairing::pairs_under;
-use crate::rounds::run_node;
+use crate::rounds::{Task, run_node};
 use duty_plan::{Case, Decision, Gate, Limits, NodeStart, Outcome, Pricer};
 use minute_line::{Many, Memory};
 use price_master::start_prices;
 use std::alloc::Global;
 use std::thread::Threads;
+use week_book::Week;
+
+/// How the root begins.
+fn root_start(alloc: Global, week: &Week) -> Result<NodeStart, Memory>
+    requires week { IsWeek week.now }
+    ensures { IfOk result (λ start. IsRootStart week.now start) }
+{
+    Ok(NodeStart {
+        pairs: pairs_under(alloc, week, &[], 0, Decision::Root)?,
+        bound: 0,
+        prices: start_prices(alloc, week)?,
+    })
+}
 
 /// Searches for a cheap plan of the case, within the limits: a lawful plan at its cost, a bound that no lawful plan beats,
 /// and the tree that shows it. Limits with nodes and labels enough for every tree and pricing leave the cost proved.
@@ -34,27 +49,17 @@ pub fn search<R: Threads + Sync, G: Gate + Sync, P: Pricer>(
     ensures right { IfOk result (λ outcome. IsRight case.now limits.now outcome) }
     ensures proved { IfOk result (λ outcome. IsWithinReach case.now limits.now → outcome.state ≡ Proved) }
 {
-    let mut kept = first_kept(alloc, case)?;
-    let prices = start_prices(alloc, &case.week)?;
-    let mut tree = Many::new(alloc);
-    let pairs = pairs_under(alloc, &case.week, tree.as_slice(), 0, Decision::Root)?;
-    let start = NodeStart {
-        pairs,
-        bound: 0,
-        prices,
-    };
-    let root = run_node(
+    let task = Task {
         rt,
         gate,
         alloc,
         case,
         limits,
-        pricer,
-        &mut kept,
-        &start,
-        0,
-        Decision::Root,
-    )?;
+    };
+    let mut kept = first_kept(alloc, case)?;
+    let mut tree = Many::new(alloc);
+    let start = root_start(alloc, &case.week)?;
+    let root = run_node(&task, pricer, &mut kept, &start, 0, Decision::Root)?;
     tree.push(root.node)?;
     let mut counts = Many::new(alloc);
     counts.push(root.counts)?;
@@ -64,11 +69,7 @@ pub fn search<R: Threads + Sync, G: Gate + Sync, P: Pricer>(
         };
         let cost = kept.cost;
         let (one, two) = children(
-            rt,
-            gate,
-            alloc,
-            case,
-            limits,
+            &task,
             pricer,
             &mut kept,
             tree.as_slice(),

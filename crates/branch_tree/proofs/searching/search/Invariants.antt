@@ -3,12 +3,12 @@ use Rattle.price_master.specs.Pools.{IsPool}
 use Rattle.branch_tree.specs.Searching.{IsSearching}
 use Rattle.branch_tree.proofs.searching.search.Given as goal
 
-abbrev pub invariant-loop-tree : goal.invariant-loop-tree
-invariant-loop-tree g l = record {
+abbrev pub invariant-loop-task : goal.invariant-loop-task
+invariant-loop-task g l = record {
   going : IsSearching l.case l.limits l.kept.plan l.kept.cost l.tree l.counts;
   pool : IsPool l.case l.kept.pool;
   chunks : g.P.Pricer.chunks l.pricer ≡ g.P.Pricer.chunks l.fn.pricer;
 }
 
-abbrev pub decreases-loop-tree : goal.decreases-loop-tree
-decreases-loop-tree g l = l.limits.nodes - length l.tree
+abbrev pub decreases-loop-task : goal.decreases-loop-task
+decreases-loop-task g l = l.limits.nodes - length l.tree

@@ -1,4 +1,4 @@
-use Rattle.std.proofs.Common.{◌≡◌, subst, List}
+use Rattle.std.proofs.Common.{subst, List}
 use Rattle.duty_plan.specs.declared.duties.Duty.{Duty}
 use Rattle.price_master.specs.Completing.{IsRest}
 use Rattle.branch_tree.proofs.TakenPlans.{taken-decided}

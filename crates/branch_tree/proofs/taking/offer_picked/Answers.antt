@@ -1,4 +1,4 @@
-use Rattle.std.proofs.Common.{◌≡◌, ◌≤◌, arith}
+use Rattle.std.proofs.Common.{arith}
 use Rattle.branch_tree.proofs.TakenPlans.{picked-beats}
 use Rattle.branch_tree.proofs.taking.offer_picked.Goals as goal
 

@@ -1,4 +1,4 @@
-use Rattle.std.proofs.Common.{◌≡◌, ◌<◌, ◌∙◌, sym, subst, arith, length}
+use Rattle.std.proofs.Common.{◌≡◌, ◌<◌, ◌∙◌, subst, arith, length}
 use Rattle.duty_plan.specs.declared.duties.Duty.{Duty}
 use Rattle.price_master.specs.Pools.{IsPooled}
 use Rattle.price_master.proofs.Adding.{added-pooled, on-ok}

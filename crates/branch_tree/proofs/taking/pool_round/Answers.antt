@@ -1,4 +1,4 @@
-use Rattle.std.proofs.Common.{◌≡◌, ℕ, ◌<◌, length, refl, arith, Some, slice_get}
+use Rattle.std.proofs.Common.{refl, arith}
 use Rattle.duty_plan.specs.declared.pricing.Priced.TheVariants.{Least}
 use Rattle.duty_plan.proofs.Lists.{slice_get-lt}
 use Rattle.price_master.proofs.Trying.{element-at}

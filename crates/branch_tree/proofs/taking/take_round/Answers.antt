@@ -1,5 +1,4 @@
-use Rattle.std.proofs.Common.{◌≡◌, ◌≤◌, arith}
-use Rattle.duty_plan.specs.declared.pricing.Priced.TheVariants.{Least}
+use Rattle.std.proofs.Common.{arith}
 use Rattle.price_master.proofs.Adding.{on-ok}
 use Rattle.branch_tree.proofs.taking.take_round.Goals as goal
 
