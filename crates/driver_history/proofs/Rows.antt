@@ -1,5 +1,5 @@
 -- The rows of a driver: how they are found, and their ranges.
-use Rattle.std.proofs.Common.{◌≡◌, ℕ, ◌+◌, ◌-◌, ◌≤◌, ◌<◌, true, false, List, [], ◌∷◌, length, get_or, drop, refl, arith, suc, zero, ◌∙◌, Option, Some, None, drop-cons, ap, cond, Bool, add-one, slice_get, nat_eq, IfSome}
+use Rattle.std.proofs.Common.{◌≡◌, ℕ, ◌+◌, ◌≤◌, ◌<◌, true, false, List, [], ◌∷◌, length, get_or, drop, refl, arith, suc, Option, Some, None, drop-cons, cond, Bool, add-one, slice_get, IfSome}
 use Rattle.std.proofs.lemmas.Bool.Decides.{nat_tests}
 use Rattle.std.proofs.lemmas.Int.{ints}
 use Rattle.std.proofs.lemmas.List.{drop_all}

@@ -1,5 +1,5 @@
 -- A text with one more row.
-use Rattle.std.proofs.Common.{◌≡◌, ℕ, ◌+◌, ◌≤◌, true, leb, inl, inr, List, [], ◌∷◌, ◌++◌, length, refl, arith, append-nil, length-append, le-leb, Option, sym, ◌∙◌}
+use Rattle.std.proofs.Common.{◌≡◌, ℕ, ◌+◌, ◌≤◌, true, leb, inl, inr, List, [], ◌∷◌, ◌++◌, length, refl, arith, append-nil, length-append, le-leb}
 use Rattle.std.proofs.lemmas.Bool.{cases_Bool}
 use Rattle.std.proofs.lemmas.Bool.Decides.{nat_tests}
 use Rattle.std.proofs.lemmas.List.Elements.{filter_map-append}

@@ -7,7 +7,7 @@ use Rattle.minute_line.specs.declared.marks.Kind.TheVariants.{Plain}
 use Rattle.minute_line.specs.declared.marks.Stint.{Stint}
 use Rattle.minute_line.specs.Marks.{is_off, is_weekly}
 use Rattle.minute_line.specs.Histories.{Fields}
-use Rattle.driver_history.specs.declared.carrying.TheConstants.{LONGEST_OPEN_RUN}
+use Rattle.minute_line.specs.declared.lines.TheConstants.{PAST_LIMIT}
 
 -- what is left of a line: the length of the last weekly rest that ended, the stints since then, the on-duty block at
 -- their end (none where it has no minute), and the off run after it with what it is declared to be
@@ -66,7 +66,7 @@ carry c s = if is_off s.mark then add_off c s.minutes s.kind else add_duty (end_
 
 -- the longest open run that a history states; a longer one passes and fails the same tests
 abbrev pub held_off : ℕ → ℕ
-held_off minutes = min LONGEST_OPEN_RUN minutes
+held_off minutes = min PAST_LIMIT minutes
 
 -- the history of what is left of a line, with the work of the weeks before, where nothing is owed
 abbrev pub fields_left : SinceWeeklyRestFields → ℕ → List ℕ → Fields

@@ -2,7 +2,7 @@
 use Rattle.std.specs.Prelude.{◌≡◌, ℕ, ◌≤◌, Bool, true, ◌&&◌, nat_le, pos, ◌≤ℤ◌, List, [], ◌∷◌, length}
 use Rattle.minute_line.specs.declared.lines.TheConstants.{WEEK_MINUTES}
 use Rattle.minute_line.specs.Stints.{all_up_to}
-use Rattle.hours_rules.specs.declared.thresholds.TheConstants.{WEEKLY_REST}
+use Rattle.minute_line.specs.declared.debts.TheConstants.{WEEKLY_REST}
 use Rattle.week_book.specs.Pasts.{Activity, Rested, PastWorkingTime, each_lasts}
 
 -- each is of at most so many minutes

@@ -2,8 +2,8 @@
 use Rattle.std.specs.Prelude.{◌≡◌, ℕ, ◌+◌, ◌≤◌, true, false}
 use Rattle.minute_line.specs.Minutes.{total_of}
 use Rattle.minute_line.specs.Stints.{is_past}
-use Rattle.hours_rules.specs.declared.thresholds.TheConstants.{WEEKLY_REST}
-use Rattle.driver_history.specs.declared.reading.TheConstants.{LONGEST_PAST}
+use Rattle.minute_line.specs.declared.debts.TheConstants.{WEEKLY_REST}
+use Rattle.minute_line.specs.declared.lines.TheConstants.{PAST_LIMIT}
 use Rattle.driver_history.specs.declared.carrying.SinceWeeklyRest.{SinceWeeklyRest}
 use Rattle.driver_history.specs.Carrying.{SinceWeeklyRestFields, all_stints}
 
@@ -27,4 +27,4 @@ pub record KeepsHistoryBounds (c : SinceWeeklyRestFields) : Type 0 where
   pub rest : WEEKLY_REST ≤ c.prev_weekly
   pub short : c.prev_weekly ≤ 1000000
   pub shape : is_past false (all_stints c) ≡ true
-  pub total : total_of (all_stints c) ≤ LONGEST_PAST
+  pub total : total_of (all_stints c) ≤ PAST_LIMIT

@@ -15,7 +15,7 @@ use Rattle.driver_history.specs.declared.errors.HistoryError.{HistoryError}
 use Rattle.driver_history.specs.declared.errors.HistoryError.TheVariants as past_error
 use Rattle.driver_history.specs.declared.errors.LineError.{LineError}
 use Rattle.driver_history.specs.declared.errors.LineError.TheVariants as line_error
-use Rattle.driver_history.specs.declared.reading.TheConstants.{LONGEST_PAST}
+use Rattle.minute_line.specs.declared.lines.TheConstants.{PAST_LIMIT}
 use Rattle.driver_history.specs.Carrying.{duty, rest, no_line, carry, fields_left}
 
 -- the stint of so many minutes that a mark word says
@@ -70,7 +70,7 @@ minutes_needed rested = unsigned_abs rested.end
 abbrev pub sum_fault : Rested → List Activity → Option HistoryError
 sum_fault rested activities =
     if nat_eq (minutes_said activities) (minutes_needed rested)
-    then (if nat_le (minutes_before activities) LONGEST_PAST then None else Some (past_error.OverLong (minutes_before activities)))
+    then (if nat_le (minutes_before activities) PAST_LIMIT then None else Some (past_error.OverLong (minutes_before activities)))
     else Some (past_error.NotToMonday (minutes_said activities) (minutes_needed rested))
 
 -- why a driver's past rows make no history after a rest, the first cause in its order

@@ -7,11 +7,8 @@ ghost use Rattle.minute_line.specs.Stints.{all_up_to};
 ghost use Rattle.driver_history.specs.Carrying.{no_line, same_mark, all_stints, add_off, end_off, add_duty, carry, fields_left};
 ghost use Rattle.driver_history.specs.Keeping.{seen, held, KeepsHistoryBounds};
 
-use minute_line::{History, Kind, Line, Many, Mark, Stint};
+use minute_line::{History, Kind, Line, Many, Mark, PAST_LIMIT, Stint};
 use std::alloc::{AllocError, Global};
-
-/// The longest open run that a history states, in minutes: two weeks.
-pub const LONGEST_OPEN_RUN: u32 = 20_160;
 
 /// What is left of a line so far: the last weekly rest that ended, the stints since then, the on-duty block at their
 /// end, and the off run after it. Lengths are minutes.
@@ -156,7 +153,7 @@ impl SinceWeeklyRest {
         ensures { IfOk result (λ history. fields_of history ≡ fields_left (seen self) prev_drive work16) }
     {
         let prev_weekly = self.prev_weekly;
-        let open_off = self.open_off.min(LONGEST_OPEN_RUN);
+        let open_off = self.open_off.min(PAST_LIMIT);
         let stints = self.into_stints()?;
         Ok(History {
             prev_weekly,

@@ -15,12 +15,9 @@ use crate::activities::{
 use crate::carrying::SinceWeeklyRest;
 use crate::errors::{HistoryError, LineError};
 use crate::rests::{Rest, Worked, find_rest, find_worked};
-use minute_line::{History, Line, Many, Name, WEEK_MINUTES};
+use minute_line::{History, Line, Many, Name, PAST_LIMIT, WEEK_MINUTES};
 use std::alloc::Global;
 use week_book::Row;
-
-/// The most minutes that the stints of a history have.
-const LONGEST_PAST: u64 = 20_160;
 
 /// What the minutes of past rows say against a history.
 fn find_sum_fault(rest: &Rest, activities: &[Activity]) -> Option<HistoryError>
@@ -34,7 +31,7 @@ fn find_sum_fault(rest: &Rest, activities: &[Activity]) -> Option<HistoryError>
         return Some(HistoryError::NotToMonday(sum, needed));
     }
     let before = sum - trailing(activities);
-    if before > LONGEST_PAST {
+    if before > PAST_LIMIT as u64 {
         return Some(HistoryError::OverLong(before));
     }
     None
