@@ -1,6 +1,7 @@
 // Searches over a pricer without chunks, whose answers are plain; and the pairs of a path. What is expected is worked out by
 // hand from the rules of a search.
-ghost use Rattle.std.specs.Prelude.{◌≡◌, ◌==◌, if◌then◌else◌, pos, [], length, IfOk};
+ghost use Rattle.std.specs.Prelude.{◌≡◌, ◌≤◌, ◌==◌, if◌then◌else◌, true, pos, [], length, IfOk, IfSome};
+ghost use Rattle.week_book.specs.Weeks.{IsWeek};
 ghost use Rattle.week_book.specs.Texts.{is_planned, each_row, begins_with_week, are_week_rows};
 ghost use Rattle.duty_plan.specs.Duties.{IsCase};
 ghost use Rattle.branch_tree.specs.Paths.{HasEarlierParents};
@@ -15,7 +16,7 @@ use std::alloc::Global;
 use std::process::Abort;
 use std::test::Fail;
 use std::thread::Threads;
-use week_book::{Row, check_week};
+use week_book::{Row, Week, check_week};
 
 /// A pricer without chunks. Where a week has no order no duty has a value below 0, and the empty duty has it; of all other
 /// weeks it says that its memory was spent.
@@ -139,6 +140,18 @@ fn push_orders(alloc: Global, rows: &mut Many<Row>, orders: &[&str]) -> Result<(
     Ok(())
 }
 
+/// The week of the rows, where they are those of one.
+fn week_of(alloc: Global, rows: &Many<Row>) -> Option<Week>
+    requires few { length rows.now ≤ 1048576 }
+    requires words { are_week_rows rows.now ≡ true }
+    ensures { IfSome result IsWeek }
+{
+    match check_week(alloc, rows) {
+        Ok(week) => Some(week),
+        Err(_) => None,
+    }
+}
+
 /// A week of these drivers and of these orders at the depot, for each of which subcontractors take 9,000 cents.
 fn case(rt: &impl Abort, alloc: Global, drivers: &[&str], orders: &[&str]) -> Result<Case, Fail>
     ensures { IfOk result IsCase }
@@ -147,12 +160,13 @@ fn case(rt: &impl Abort, alloc: Global, drivers: &[&str], orders: &[&str]) -> Re
     push_drivers(alloc, &mut rows, drivers)?;
     push_orders(alloc, &mut rows, orders)?;
     assert!(rt; rows.len() <= 1_048_576 && are_week_rows(rows.as_slice()));
-    let week = check_week(alloc, &rows).ok().ok_or("week")?;
+    let Some(week) = week_of(alloc, &rows) else {
+        return Err(Fail::new("no week"));
+    };
     let mut past = Many::new(alloc);
-    for _driver in drivers {
+    for _driver in week.drivers.as_slice() {
         past.push(fresh(alloc))?;
     }
-    assert_eq!(rt; past.len(), week.drivers.len());
     Ok(Case { week, past })
 }
 
