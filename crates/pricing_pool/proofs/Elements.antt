@@ -1,0 +1,22 @@
+-- Facts on each element of a list, by its place.
+use Rattle.std.proofs.Common.{◌≡◌, All, ℕ, zero, suc, ◌+◌, ◌<◌, List, [], ◌∷◌, ◌++◌, length, ap, ◌∙◌, subst, arith, length-append, Option, Some, None, slice_get}
+use Rattle.duty_plan.specs.Duties.{EachOf}
+
+pub some-same : {X : Type 0} (a b : X) → Some a ≡ Some b → a ≡ b
+some-same a b h = cc
+
+-- one element more
+pub each-push : {X : Type 0} (P : ℕ → X → Type 0) (xs : List X) (x : X) → EachOf P xs → P (length xs) x → EachOf P (xs ++ x ∷ [])
+each-push P [] x all here zero y h = subst (P 0) (some-same x y h) here
+each-push P [] x all here (suc n) y h = cc
+each-push P (z ∷ zs) x all here zero y h = all 0 y h
+each-push P (z ∷ zs) x all here (suc n) y h = each-push (λ k. P (suc k)) zs x (λ k w i. all (suc k) w i) here n y h
+
+-- the last of one element is all
+pub last-alone : {X : Type 0} (xs : List X) (x : X) (ys : List X) → ys ≡ xs ++ x ∷ [] → length ys ≡ 1 → ys ≡ x ∷ []
+last-alone [] x ys is one = is
+last-alone (z ∷ zs) x ys is one = absurd (let long = ap (λ w. length w) is ∙ length-append (z ∷ zs) (x ∷ []) in omega arith)
+
+-- what holds of all holds of the only one
+pub all-only : {X : Type 0} (P : X → Type 0) (xs : List X) (x : X) → xs ≡ x ∷ [] → All P xs → P x
+all-only P xs x is all = let one = subst (All P) is all in one 0 x (omega arith)

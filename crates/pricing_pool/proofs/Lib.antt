@@ -1,0 +1,4 @@
+pub mod Counting
+pub mod Elements
+pub mod Finding
+pub mod Lone

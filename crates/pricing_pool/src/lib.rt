@@ -1,0 +1,9 @@
+//! Rounds of prices for all drivers of a case, one driver after another. Labels are counted in chunks of 1,024; drivers count
+//! from 0.
+#![tactic(auto)]
+
+mod arenas;
+mod pricing;
+mod turns;
+
+pub use turns::{TurnPricer, make_turns};
