@@ -1,4 +1,4 @@
--- What is hoped for, from the last driver to the first; and the choice of one bid alone.
+-- The choice of one bid alone.
 use Rattle.std.proofs.Common.{◌≡◌, ◌≢◌, ◌⊎◌, inl, inr, ℕ, zero, suc, ◌+◌, ◌*◌, ◌<◌, ◌≤◌, Bool, true, List, length, get_or, set, refl, ap, sym, ◌∙◌, subst, arith, add-one, Some, slice_get, bit_and, bit_or, eqb, get_or-set_same, get_or-set_other}
 use Rattle.std.specs.Int.Bits.{and_zero_l, and_zero_r, or_zero_r}
 use Rattle.std.proofs.lemmas.Option.{slice_get_within}
@@ -8,45 +8,6 @@ use Rattle.price_master.specs.Bids.{AreChosen, AreFixed, HaveHomes, IsIn, IsMost
 use Rattle.price_master.proofs.Carried.{get-below}
 use Rattle.price_master.proofs.Fixing.{chosen-all, fixed-next}
 use Rattle.price_master.proofs.Lookups.{length-set_lem, same-or-not}
-
--- from a driver on, and low enough to be added
-pub record AreHopesFrom (bids : List (List Bid)) (hopes : List ℕ) (n : ℕ) : Type 0 where
-  pub inside : n ≤ length bids
-  pub room : length hopes ≡ 17
-  pub each : (driver k : ℕ) (of_driver : List Bid) (bid : Bid) → n ≤ driver → slice_get bids driver ≡ Some of_driver → slice_get of_driver k ≡ Some bid →
-      bid.saving + get_or hopes (driver + 1) 0 ≤ get_or hopes driver 0
-  pub low : get_or hopes n 0 + n * 1099511627776 ≤ length bids * 1099511627776
-
-abbrev hopes_with : List ℕ → ℕ → ℕ → List ℕ
-hopes_with hopes n most = set hopes n (get_or hopes (n + 1) 0 + most)
-
-pub hopes-more : (bids : List (List Bid)) (hopes : List ℕ) (n most : ℕ) (of_driver : List Bid) → AreHopesFrom bids hopes (n + 1) →
-    slice_get bids n ≡ Some of_driver → IsMostOf of_driver most → most ≤ 1099511627776 → n < length hopes →
-    AreHopesFrom bids (set hopes n (get_or hopes (n + 1) 0 + most)) n
-hopes-more bids hopes n most of_driver h at all low l = record {
-  inside = omega (arith, h.inside);
-  room = length-set_lem hopes n (get_or hopes (n + 1) 0 + most) ∙ h.room;
-  each = λ driver k others bid below there is. by_driver driver k others bid below there is (same-or-not driver n);
-  low = omega (arith, h.low, low, same);
-}
-  where
-    same : get_or (hopes_with hopes n most) n 0 ≡ get_or hopes (n + 1) 0 + most
-    same = get_or-set_same hopes n (get_or hopes (n + 1) 0 + most) 0 l
-
-    other : (k : ℕ) → k ≢ n → get_or (hopes_with hopes n most) k 0 ≡ get_or hopes k 0
-    other k d = get_or-set_other hopes n k (get_or hopes (n + 1) 0 + most) 0 d
-
-    by_driver : (driver k : ℕ) (others : List Bid) (bid : Bid) → n ≤ driver → slice_get bids driver ≡ Some others → slice_get others k ≡ Some bid →
-        (driver ≡ n) ⊎ (driver ≢ n) → bid.saving + get_or (hopes_with hopes n most) (driver + 1) 0 ≤ get_or (hopes_with hopes n most) driver 0
-    by_driver driver k others bid below there is (inr d) =
-        omega (arith, other driver d, other (driver + 1) (λ e. absurd (omega arith)), h.each driver k others bid (omega arith) there is)
-    by_driver driver k others bid below there is (inl e) =
-        let here : slice_get bids n ≡ Some others = ap (slice_get bids) (sym e) ∙ there in
-        let its : others ≡ of_driver = cc in
-        let mine : slice_get of_driver k ≡ Some bid = ap (λ (xs : List Bid). slice_get xs k) (sym its) ∙ is in
-        let at_driver : get_or (hopes_with hopes n most) driver 0 ≡ get_or (hopes_with hopes n most) n 0 = ap (λ (m : ℕ). get_or (hopes_with hopes n most) m 0) e in
-        let behind : get_or (hopes_with hopes n most) (driver + 1) 0 ≡ get_or (hopes_with hopes n most) (n + 1) 0 = ap (λ (m : ℕ). get_or (hopes_with hopes n most) (m + 1) 0) e in
-        omega (arith, at_driver, behind, same, other (n + 1) (λ z. absurd (omega arith)), all k bid mine)
 
 pub zero-apart : (x : ℕ) → are_apart x 0 ≡ true
 zero-apart x = ap (λ (y : ℕ). eqb y 0) (and_zero_r x)

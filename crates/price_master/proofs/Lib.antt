@@ -19,5 +19,7 @@ pub mod Hoping
 pub mod Chosen
 pub mod Others
 pub mod Turns
+pub mod Bounds
 pub mod Adding
 pub mod Picks
+pub mod Serving

@@ -5,7 +5,7 @@ use Rattle.std.proofs.lemmas.List.Sums.{sum_by_more, sum_by-take-le}
 use Rattle.std.proofs.lemmas.Option.{slice_get_within, get_or_from_slice_get, slice_get_read, slice_get-get_or}
 use Rattle.price_master.specs.declared.bidding.Bid.{Bid}
 use Rattle.price_master.specs.Pools.{are_apart}
-use Rattle.price_master.specs.Bids.{CanSave, turns_of, AreHopes}
+use Rattle.price_master.specs.Bids.{CanSave, turns_of}
 
 -- the turns that a bid takes, and those of the choices after it
 abbrev pub turns_after : List (List Bid) → ℕ → Bid → ℕ
@@ -63,26 +63,18 @@ none-left [] (suc driver) served more l can = can
 none-left (x ∷ xs) zero served more l can = absurd (omega arith)
 none-left (x ∷ xs) (suc driver) served more l can = none-left xs driver served more (omega arith) can
 
--- no choice saves more than is hoped for
-pub hoped : (bids : List (List Bid)) (hopes : List ℕ) (rest : List (List Bid)) (driver served more : ℕ) → AreHopes bids hopes →
-    rest ≡ drop driver bids → CanSave rest served more → more ≤ get_or hopes driver 0
-hoped bids hopes [] driver served more h e can = omega arith
-hoped bids hopes (of_driver ∷ rest) driver served more h e can =
-    let parts = begins bids driver of_driver rest e in
-    let next : can.2 ≤ get_or hopes (driver + 1) 0 = hoped bids hopes rest (driver + 1) (bit_or served can.1.served) can.2 h parts.1 can.6 in
-    omega (arith, can.5, next, h.each driver can.0 of_driver can.1 parts.0 can.3)
-  where
-    begins : {X : Type 0} (xs : List X) (n : ℕ) (x : X) (ys : List X) → x ∷ ys ≡ drop n xs → (slice_get xs n ≡ Some x) × (ys ≡ drop (n + 1) xs)
-    begins [] zero x ys e = cc
-    begins [] (suc n) x ys e = cc
-    begins {X = X} (z ∷ zs) zero x ys e =
-        let one : x ≡ z = cc in
-        let others : ys ≡ zs = cc in
-        (ap (λ (w : X). Some w) (sym one), others)
-    begins (z ∷ zs) (suc n) x ys e =
-        let more = begins zs n x ys e in
-        let next : suc (n + 1) ≡ suc n + 1 = omega arith in
-        (more.0, more.1 ∙ ap (λ (m : ℕ). drop m (z ∷ zs)) next)
+-- a list that begins where another is dropped
+pub begins : {X : Type 0} (xs : List X) (n : ℕ) (x : X) (ys : List X) → x ∷ ys ≡ drop n xs → (slice_get xs n ≡ Some x) × (ys ≡ drop (n + 1) xs)
+begins [] zero x ys e = cc
+begins [] (suc n) x ys e = cc
+begins {X = X} (z ∷ zs) zero x ys e =
+    let one : x ≡ z = cc in
+    let others : ys ≡ zs = cc in
+    (ap (λ (w : X). Some w) (sym one), others)
+begins (z ∷ zs) (suc n) x ys e =
+    let more = begins zs n x ys e in
+    let next : suc (n + 1) ≡ suc n + 1 = omega arith in
+    (more.0, more.1 ∙ ap (λ (m : ℕ). drop m (z ∷ zs)) next)
 
 -- the turns of one bid more
 pub turns-more : (f : Bid → ℕ) (bids : List Bid) (n : ℕ) (bid : Bid) → slice_get bids n ≡ Some bid → sum_by f (take (n + 1) bids) ≡ sum_by f (take n bids) + f bid
@@ -93,19 +85,6 @@ turns-more f bids n bid e =
 -- the element that a loop reads
 pub element-at : {X : Type 0} (xs : List X) (n : ℕ) (x y : X) → n < length xs → x ≡ get_or xs n x → y ≡ x → slice_get xs n ≡ Some y
 element-at {X = X} xs n x y l e same = slice_get_read xs (length xs) n x refl l e ∙ ap (λ (z : X). Some z) (sym same)
-
--- with one bid more, no more is hoped for than before
-pub hope-falls : (bids : List (List Bid)) (hopes : List ℕ) (driver n saving : ℕ) (of_driver : List Bid) (d : Bid) → AreHopes bids hopes →
-    slice_get bids driver ≡ Some of_driver → n < length of_driver →
-    saving + (get_or of_driver n d).saving + get_or hopes (driver + 1) 0 ≤ saving + get_or hopes driver 0
-hope-falls bids hopes driver n saving of_driver d h at l =
-    omega (arith, h.each driver n of_driver (get_or of_driver n d) at (slice_get-get_or of_driver n d l))
-
--- the choices with a bid save no more than is hoped for
-pub hoped-with : (bids : List (List Bid)) (hopes : List ℕ) (driver served saving more best : ℕ) (bid : Bid) → AreHopes bids hopes →
-    saving + bid.saving + get_or hopes (driver + 1) 0 ≤ best → CanSave (drop (driver + 1) bids) served more → saving + (bid.saving + more) ≤ best
-hoped-with bids hopes driver served saving more best bid h l can =
-    omega (arith, hoped bids hopes (drop (driver + 1) bids) (driver + 1) served more h refl can)
 
 -- the turns of a driver's bids
 pub turns-all : (bids : List (List Bid)) (driver served : ℕ) (of_driver : List Bid) → slice_get bids driver ≡ Some of_driver →

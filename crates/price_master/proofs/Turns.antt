@@ -30,7 +30,7 @@ total-cond : (b : Bool) (f : ℕ → ℕ) (n : ℕ) → total_below (λ k. cond 
 total-cond true f n = refl
 total-cond false f n = total-zero (λ k. 0) n (λ k l. refl)
 
-cond-le : (b : Bool) (m n : ℕ) → m ≤ n → cond b m 0 ≤ cond b n 0
+pub cond-le : (b : Bool) (m n : ℕ) → m ≤ n → cond b m 0 ≤ cond b n 0
 cond-le true m n h = h
 cond-le false m n h = omega arith
 

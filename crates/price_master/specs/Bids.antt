@@ -76,12 +76,6 @@ AreFixed bids places (suc n) served saving = (before : ℕ) × (sum : ℕ) × Ar
 abbrev pub AreChosen : List (List Bid) → List ℕ → ℕ → Type 0
 AreChosen bids places saving = (served : ℕ) × AreFixed bids places (length bids) served saving
 
--- at least what the drivers from each on can save: no bid of a driver saves more than what is left of it behind the driver
-pub record AreHopes (bids : List (List Bid)) (hopes : List ℕ) : Type 0 where
-  pub drivers : length bids < length hopes
-  pub each : (driver k : ℕ) (of_driver : List Bid) (bid : Bid) → slice_get bids driver ≡ Some of_driver → slice_get of_driver k ≡ Some bid →
-      bid.saving + slice_index hopes (driver + 1) ≤ slice_index hopes driver
-
 -- each driver may be given the empty duty
 abbrev pub HaveHomes : List (List Bid) → Type 0
 HaveHomes bids = (driver : ℕ) (of_driver : List Bid) → slice_get bids driver ≡ Some of_driver → IsIn of_driver home

@@ -1,10 +1,11 @@
 // The search for the choice of one bid for each driver that saves most.
-ghost use Rattle.std.specs.Prelude.{◌≡◌, ◌⊎◌, ℕ, ◌+◌, ◌<◌, ◌≤◌, ◌^◌, true, false, List, length, drop, set, Some, slice_get, slice_index};
+ghost use Rattle.std.specs.Prelude.{◌≡◌, ◌⊎◌, ℕ, ◌+◌, ◌*◌, ◌<◌, ◌≤◌, true, false, List, length, drop, set, Some, slice_get, slice_index};
 ghost use Rattle.price_master.specs.declared.bidding.Bid.{Bid as GhostBid};
-ghost use Rattle.price_master.specs.Pools.{are_apart};
-ghost use Rattle.price_master.specs.Bids.{AreChosen, AreFixed, AreHopes, CanSave, HaveHomes, IsMostOf, turns_of};
+ghost use Rattle.price_master.specs.Bids.{AreChosen, AreFixed, CanSave, HaveHomes, IsMostOf, turns_of};
+ghost use Rattle.price_master.specs.Shares.{AreAllSensible, AreShares};
 
 use crate::bidding::{Bid, HOME};
+use crate::bounding::{Shares, are_apart, may_beat, shares_of};
 use minute_line::Many;
 
 /// The turns after which the search is cut; a turn fixes one driver's bid.
@@ -12,12 +13,6 @@ const TURNS: u32 = 20_000;
 
 /// The most drivers of a week.
 const DRIVERS: usize = 16;
-
-/// One more.
-const ENDS: usize = 17;
-
-/// What can be hoped for from each driver on, in cents.
-type Hopes = [u64; ENDS];
 
 /// The places of the chosen bids.
 pub(crate) type Places = [u32; DRIVERS];
@@ -45,12 +40,6 @@ impl Found {
             self.places = places;
         }
     }
-}
-
-fn are_apart(one: u128, other: u128) -> bool
-    ensures { result ≡ are_apart one other }
-{
-    one & other == 0
 }
 
 fn placed(places: Places, driver: usize, place: u32) -> Places
@@ -105,39 +94,11 @@ fn best_single(bids: &[Many<Bid>]) -> Found
     found
 }
 
-/// The most that one of the bids saves.
-fn most_of(bids: &[Bid]) -> u64
-    ensures most { IsMostOf bids.now result }
-    ensures least { (most : ℕ) → IsMostOf bids.now most → result ≤ most }
-{
-    let mut most = 0;
-    for bid in bids {
-        most = most.max(bid.saving);
-    }
-    most
-}
-
-/// At least what the drivers from each on can save together: the sum of what each can save most.
-fn hopes_of(bids: &[Many<Bid>]) -> Hopes
-    requires drivers { length bids.now ≤ 16 }
-    requires small { (driver : ℕ) (of_driver : List GhostBid) → slice_get bids.now driver ≡ Some of_driver → IsMostOf of_driver 1099511627776 }
-    ensures hopes { AreHopes bids.now result }
-    ensures first { slice_index result 0 ≤ 17592186044416 }
-{
-    let mut hopes = [0; ENDS];
-    let mut driver = bids.len();
-    while driver > 0 {
-        driver -= 1;
-        hopes[driver] = hopes[driver + 1] + most_of(bids[driver].as_slice());
-    }
-    hopes
-}
-
 /// Tries each choice of bids for the drivers from `driver` on, where the earlier ones' are fixed: these serve `served` and
 /// save `saving` together.
 fn explore(
     bids: &[Many<Bid>],
-    hopes: &[u64],
+    shares: &Shares,
     found: &mut Found,
     driver: usize,
     served: u128,
@@ -146,9 +107,10 @@ fn explore(
 )
     requires drivers { length bids.now ≤ 16 }
     requires driver { driver ≤ length bids.now }
-    requires hopes { AreHopes bids.now hopes.now }
+    requires bids { AreAllSensible bids.now }
+    requires shares { AreShares bids.now shares.now }
     requires fixed { AreFixed bids.now places driver served saving }
-    requires fits { saving + slice_index hopes.now driver < 2 ^ 63 }
+    requires fits { saving ≤ driver * 1099511627776 }
     requires found { AreChosen bids.now found.old.places found.old.saving }
     requires turns { found.old.turns ≤ 20000 }
     requires going { found.old.is_cut ≡ false }
@@ -164,22 +126,18 @@ fn explore(
         return;
     }
     for bid in bids[driver].as_slice() {
-        let hope = saving + bid.saving + hopes[driver + 1];
-        if are_apart(served, bid.served) && found.saving < hope {
+        let next = served | bid.served;
+        let sum = saving + bid.saving;
+        if are_apart(served, bid.served)
+            && may_beat(bids, shares, driver + 1, next, sum, found.saving)
+        {
             if found.turns == TURNS {
                 found.is_cut = true;
                 return;
             }
             found.turns += 1;
-            explore(
-                bids,
-                hopes,
-                found,
-                driver + 1,
-                served | bid.served,
-                saving + bid.saving,
-                placed(places, driver, bid.place),
-            );
+            let places = placed(places, driver, bid.place);
+            explore(bids, shares, found, driver + 1, next, sum, places);
             if found.is_cut {
                 return;
             }
@@ -192,14 +150,14 @@ fn explore(
 pub(crate) fn best_choice(bids: &[Many<Bid>]) -> Found
     requires drivers { length bids.now ≤ 16 }
     requires homes { HaveHomes bids.now }
-    requires small { (driver : ℕ) (of_driver : List GhostBid) → slice_get bids.now driver ≡ Some of_driver → IsMostOf of_driver 1099511627776 }
+    requires bids { AreAllSensible bids.now }
     ensures found { AreChosen bids.now result.places result.saving }
     ensures best { result.is_cut ≡ false → (saving : ℕ) → CanSave bids.now 0 saving → saving ≤ result.saving }
     ensures beats { (driver : ℕ) (of_driver : List GhostBid) → slice_get bids.now driver ≡ Some of_driver → IsMostOf of_driver result.saving }
     ensures long { result.is_cut ≡ true → 20000 ≤ turns_of bids.now 0 }
 {
-    let hopes = hopes_of(bids);
+    let shares = shares_of(bids);
     let mut found = best_single(bids);
-    explore(bids, &hopes, &mut found, 0, 0, 0, homes());
+    explore(bids, &shares, &mut found, 0, 0, 0, homes());
     found
 }

@@ -2,6 +2,7 @@
 #![tactic(auto)]
 
 mod bidding;
+mod bounding;
 mod completing;
 mod exploring;
 mod laws;

@@ -5,31 +5,29 @@ use Rattle.price_master.specs.declared.bidding.Bid.{Bid}
 use Rattle.price_master.specs.Pools.{are_apart}
 use Rattle.price_master.specs.Bids.{AreFixed, CanSave}
 use Rattle.price_master.proofs.Fixing.{fixed-next}
-use Rattle.price_master.proofs.Trying.{element-at, hope-falls, hoped-with, none-left, tried-all, tried-more, turns-all, turns-more, turns-within, turns-yes, turns_after}
+use Rattle.price_master.proofs.Trying.{element-at, none-left, tried-all, tried-more, turns-all, turns-more, turns-within, turns-yes, turns_after}
 use Rattle.price_master.proofs.exploring.+explore.Goals as goal
-use Rattle.price_master.proofs.exploring.+explore.Goals.{then-are_apart+then-found-hope+else-found-eq-TURNS+else-found, else-are_apart, else-are_apart-via-then-are_apart+else-found-hope, else-are_apart-via-else-are_apart}
+use Rattle.price_master.proofs.exploring.+explore.Goals.{then-are_apart+then-may_beat+else-found-eq-TURNS+else-found, else-are_apart, else-are_apart-via-then-are_apart+else-may_beat, else-are_apart-via-else-are_apart}
 
 -- what is read past the end
 abbrev none : Bid
 none = record { place = 0; served = 0; saving = 0 }
 
-pub overflow_add-hope : goal.overflow_add-hope
-overflow_add-hope t c =
+pub overflow_add-sum : goal.overflow_add-sum
+overflow_add-sum t c =
     let inside : c.args.driver < length c.args.bids.now = omega arith in
     let at = element-at c.args.bids.now c.args.driver c.index-bids-driver.result c.as_slice-bid-items.result.now inside c.index-bids-driver.is c.as_slice-bid-items.ensures in
-    omega (arith, hope-falls c.args.bids.now c.args.hopes.now c.args.driver c.loop-bid.bid-index c.args.saving c.as_slice-bid-items.result.now none c.requires.hopes at c.loop-bid-test.true, c.requires.fits)
+    let there = slice_get-get_or c.as_slice-bid-items.result.now c.loop-bid.bid-index none c.loop-bid-test.true in
+    let small = (c.requires.bids c.args.driver c.as_slice-bid-items.result.now at).small c.loop-bid.bid-index (get_or c.as_slice-bid-items.result.now c.loop-bid.bid-index none) there in
+    omega (arith, small, c.requires.fits, c.requires.drivers)
 
-pub overflow_add-hope-in-loop-bid-2 : goal.overflow_add-hope-in-loop-bid-2
-overflow_add-hope-in-loop-bid-2 t c =
+pub may_beat-requires-clause-fits : goal.may_beat-requires-clause-fits
+may_beat-requires-clause-fits t c =
     let inside : c.args.driver < length c.args.bids.now = omega arith in
     let at = element-at c.args.bids.now c.args.driver c.index-bids-driver.result c.as_slice-bid-items.result.now inside c.index-bids-driver.is c.as_slice-bid-items.ensures in
-    omega (arith, hope-falls c.args.bids.now c.args.hopes.now c.args.driver c.loop-bid.bid-index c.args.saving c.as_slice-bid-items.result.now none c.requires.hopes at c.loop-bid-test.true, c.requires.fits)
-
-pub overflow_add-saving : goal.overflow_add-saving
-overflow_add-saving t c =
-    let inside : c.args.driver < length c.args.bids.now = omega arith in
-    let at = element-at c.args.bids.now c.args.driver c.index-bids-driver.result c.as_slice-bid-items.result.now inside c.index-bids-driver.is c.as_slice-bid-items.ensures in
-    omega (arith, hope-falls c.args.bids.now c.args.hopes.now c.args.driver c.loop-bid.bid-index c.args.saving c.as_slice-bid-items.result.now none c.requires.hopes at c.loop-bid-test.true, c.requires.fits)
+    let there = slice_get-get_or c.as_slice-bid-items.result.now c.loop-bid.bid-index none c.loop-bid-test.true in
+    let small = (c.requires.bids c.args.driver c.as_slice-bid-items.result.now at).small c.loop-bid.bid-index (get_or c.as_slice-bid-items.result.now c.loop-bid.bid-index none) there in
+    omega (arith, small, c.requires.fits, c.requires.drivers)
 
 pub explore-requires : goal.explore-requires
 explore-requires t c =
@@ -40,17 +38,20 @@ explore-requires t c =
     let room : c.args.driver < length c.args.places = omega (arith, c.requires.drivers) in
     let fixed = fixed-next c.args.bids.now c.args.places c.args.driver c.args.served c.args.saving c.loop-bid.bid-index c.as_slice-bid-items.result.now bid
     c.requires.fixed at there (sym c.are_apart.ensures ∙ c.if-are_apart.true) room in
-    let falls = hope-falls c.args.bids.now c.args.hopes.now c.args.driver c.loop-bid.bid-index c.args.saving c.as_slice-bid-items.result.now none c.requires.hopes at c.loop-bid-test.true in (
+    let small = (c.requires.bids c.args.driver c.as_slice-bid-items.result.now at).small c.loop-bid.bid-index bid there in (
       search rules,
       (
         c.requires.drivers,
         (
           omega arith,
           (
-            c.requires.hopes,
+            c.requires.bids,
             (
-              subst (λ (p : List ℕ). AreFixed c.args.bids.now p (c.args.driver + 1) (bit_or c.args.served bid.served) (c.args.saving + bid.saving)) (sym c.placed.ensures) fixed,
-              (omega (arith, falls, c.requires.fits), (c.loop-bid.invariant.found, (omega (arith, c.if-found-eq-TURNS.false, c.loop-bid.invariant.limit), c.loop-bid.invariant.going))),
+              c.requires.shares,
+              (
+                subst (λ (p : List ℕ). AreFixed c.args.bids.now p (c.args.driver + 1) (bit_or c.args.served bid.served) (c.args.saving + bid.saving)) (sym c.placed-places.ensures) fixed,
+                (omega (arith, small, c.requires.fits), (c.loop-bid.invariant.found, (omega (arith, c.if-found-eq-TURNS.false, c.loop-bid.invariant.limit), c.loop-bid.invariant.going))),
+              ),
             ),
           ),
         ),
@@ -81,7 +82,7 @@ loop-bid-preserved t c =
     let rest = drop (c.args.driver + 1) c.args.bids.now in
     let more = turns-more (turns_after rest c.args.served) c.as_slice-bid-items.result.now c.loop-bid.bid-index bid there in
     elim c.if-are_apart.branch [
-      | then-are_apart+then-found-hope+else-found-eq-TURNS+else-found w ↦ rw w.found-is (record {
+      | then-are_apart+then-may_beat+else-found-eq-TURNS+else-found w ↦ rw w.found-is (record {
         found = w.explore.ensures.found;
         grows = omega (arith, w.explore.ensures.grows, c.loop-bid.invariant.grows);
         going = w.if-found.false;
@@ -102,11 +103,10 @@ loop-bid-preserved t c =
         going = c.loop-bid.invariant.going;
         limit = c.loop-bid.invariant.limit;
         tried = elim w.else-are_apart.branch [
-          | else-are_apart-via-then-are_apart+else-found-hope v ↦
+          | else-are_apart-via-then-are_apart+else-may_beat v ↦
               tried-more rest c.args.served c.args.saving c.as_slice-bid-items.result.now c.loop-bid.bid-index c.loop-bid.found.saving c.loop-bid.found.saving bid
               c.loop-bid.invariant.tried (omega arith) there
-              (λ m apart can. hoped-with c.args.bids.now c.args.hopes.now c.args.driver (bit_or c.args.served bid.served) c.args.saving m c.loop-bid.found.saving bid c.requires.hopes
-              v.if-found-hope.false can)
+              (λ m apart can. omega (arith, v.may_beat.ensures v.if-may_beat.false m can))
           | else-are_apart-via-else-are_apart v ↦
               tried-more rest c.args.served c.args.saving c.as_slice-bid-items.result.now c.loop-bid.bid-index c.loop-bid.found.saving c.loop-bid.found.saving bid
               c.loop-bid.invariant.tried (omega arith) there

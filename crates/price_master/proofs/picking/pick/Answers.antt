@@ -1,5 +1,6 @@
 use Rattle.std.proofs.Common.{◌≡◌, ℕ, ◌≤◌, true, refl, sym, subst, arith, length}
 use Rattle.price_master.proofs.Picks.{bids-below, bids-seen, cut-plan, least-pooled, plan-of}
+use Rattle.price_master.proofs.Serving.{sensible}
 use Rattle.price_master.proofs.picking.pick.Goals as goal
 
 pub best_choice-found-requires-clause-homes : goal.best_choice-found-requires-clause-homes
@@ -8,11 +9,10 @@ best_choice-found-requires-clause-homes c = λ driver of_driver at.
     let its = bids-below c.args.case.now c.args.pool.now c.as_slice.result.now driver of_driver are_bids at in
     (are_bids.each driver its.0 of_driver its.1 at).has_home
 
-pub best_choice-found-requires-clause-small : goal.best_choice-found-requires-clause-small
-best_choice-found-requires-clause-small c = λ driver of_driver at.
+pub best_choice-found-requires-clause-bids : goal.best_choice-found-requires-clause-bids
+best_choice-found-requires-clause-bids c =
     let are_bids = bids-seen c.args.case.now c.args.pool.now c.in_ok-bids.bids c.as_slice.result.now c.in_ok-bids.ensures c.as_slice.ensures in
-    let its = bids-below c.args.case.now c.args.pool.now c.as_slice.result.now driver of_driver are_bids at in
-    (are_bids.each driver its.0 of_driver its.1 at).small
+    sensible c.args.case.now c.args.pool.now c.as_slice.result.now c.requires.case.week.few.2 c.requires.pool are_bids
 
 pub best_choice-found-requires-clause-drivers : goal.best_choice-found-requires-clause-drivers
 best_choice-found-requires-clause-drivers c =
