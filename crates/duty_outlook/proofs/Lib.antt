@@ -1,9 +1,7 @@
 pub mod Ways
 pub mod Steps
-pub mod Bits
 pub mod Lists
 pub mod Reading
 pub mod Raising
 pub mod Filled
 pub mod Gains
-pub mod Undone

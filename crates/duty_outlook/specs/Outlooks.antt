@@ -1,5 +1,6 @@
 -- What the entries of an outlook say.
 use Rattle.std.specs.Prelude.{◌≡◌, ℕ, ◌+◌, ◌*◌, ◌<◌, ◌≤◌, List, All, ℤ, pos, ◌-ℤ◌, Some}
+use Rattle.minute_line.specs.declared.lines.TheConstants.{WEEK_MINUTES}
 use Rattle.week_book.specs.declared.weeks.Week.{Week}
 use Rattle.week_book.specs.declared.weeks.Leg.{Leg as Road}
 use Rattle.week_book.specs.Weeks.{IsWeek, road}
@@ -24,7 +25,7 @@ pub record CoversRow (week : Week) (capacity unit : ℕ) (prices : Prices) (spot
 
 -- an entry of a spot in the week has a row that covers
 abbrev pub IsSound : Week → ℕ → ℕ → Prices → Entry → Type 0
-IsSound week capacity unit prices entry = entry.spot.minute ≤ 10080 → CoversRow week capacity unit prices entry.spot entry.numbers
+IsSound week capacity unit prices entry = entry.spot.minute ≤ WEEK_MINUTES → CoversRow week capacity unit prices entry.spot entry.numbers
 
 -- each entry of the outlook is sound, for a lorry of its capacity
 pub record IsFilled (week : Week) (prices : Prices) (outlook : Outlook) : Type 0 where
@@ -62,4 +63,4 @@ pub record IsSameBut (old new : Outlook) : Type 0 where
 
 -- no entry is one of a minute in the week
 abbrev pub AreBlank : Outlook → Type 0
-AreBlank outlook = All (λ entry. 10080 < entry.spot.minute) outlook.entries.items
+AreBlank outlook = All (λ entry. WEEK_MINUTES < entry.spot.minute) outlook.entries.items

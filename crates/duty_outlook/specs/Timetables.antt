@@ -1,6 +1,7 @@
 -- Timetables: acts with the minutes at which they start, under the road, the windows, the lorry's capacity and the end of the
 -- week, but under no hours rule and with any waiting between them.
 use Rattle.std.specs.Prelude.{◌≡◌, ℕ, ◌+◌, ◌≤◌, ◌||◌, Bool, true, not, List, [], ◌∷◌, ℤ, pos, ◌+ℤ◌, ◌-ℤ◌}
+use Rattle.minute_line.specs.declared.lines.TheConstants.{WEEK_MINUTES}
 use Rattle.week_book.specs.declared.weeks.Week.{Week}
 use Rattle.duty_plan.specs.declared.duties.Act.{Act}
 use Rattle.duty_plan.specs.declared.duties.Act.TheVariants.{Leg, Serve, Load}
@@ -29,7 +30,7 @@ done_by done act order = serves_order order act || done order
 pub record MayDo (week : Week) (capacity : ℕ) (done : ℕ → Bool) (place start load : ℕ) (act : Act) : Type 0 where
   pub road : can_be_done week place act ≡ true
   pub window : may_start week act start ≡ true
-  pub late : start + minutes_of week place act ≤ 10080
+  pub late : start + minutes_of week place act ≤ WEEK_MINUTES
   pub room : may_carry week capacity true load act ≡ true
   pub undone : is_undone done act ≡ true
 

@@ -15,9 +15,9 @@ use crate::layouts::make_layout;
 use crate::levels::unit_for;
 use crate::outlooks::{LIMIT, NOTHING, Outlook, scale_of};
 use crate::services::with_order;
-use crate::spots::{END, Entry, Spot};
+use crate::spots::{Entry, Spot};
 use duty_plan::{Case, Label, Pair, Pairs, Prices};
-use minute_line::Memory;
+use minute_line::{Memory, WEEK_MINUTES};
 use std::alloc::Global;
 use week_book::Week;
 
@@ -56,7 +56,7 @@ pub fn make_outlook(alloc: Global, entries: u32) -> Result<Outlook, Memory> {
     let blank = Entry {
         spot: Spot {
             place: 0,
-            minute: END + 1,
+            minute: WEEK_MINUTES + 1,
             orders: 0,
         },
         numbers: [0; 32],

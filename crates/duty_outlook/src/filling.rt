@@ -1,5 +1,6 @@
 // How an outlook is filled: the entries of a minute from those of later minutes.
 ghost use Rattle.std.specs.Prelude.{◌≡◌, ℕ, ◌+◌, ◌≤◌, ◌<◌};
+ghost use Rattle.minute_line.specs.declared.lines.TheConstants.{WEEK_MINUTES};
 ghost use Rattle.week_book.specs.declared.weeks.Week.{Week};
 ghost use Rattle.week_book.specs.Weeks.{IsWeek};
 ghost use Rattle.duty_plan.specs.declared.duties.Act.{Act};
@@ -11,18 +12,19 @@ ghost use Rattle.duty_outlook.specs.Outlooks.{AdmitsAct, AreBlank, CoversRow, Is
 use crate::layouts::{set_of, sets_of};
 use crate::outlooks::{NOTHING, Outlook};
 use crate::rows::raise_all;
-use crate::spots::{END, Entry, Spot};
+use crate::spots::{Entry, Spot};
 use duty_plan::Prices;
+use minute_line::WEEK_MINUTES;
 use week_book::Week;
 
 impl Outlook {
     /// A row for the spot a minute later; at the end of the week a row of no saving at all.
     fn later_row(&self, spot: Spot) -> [u64; 32]
-        requires { spot.minute ≤ 10080 }
-        ensures { (week : Week) (prices : Prices) → IsFilled week prices self.now → spot.minute < 10080 →
+        requires { spot.minute ≤ WEEK_MINUTES }
+        ensures { (week : Week) (prices : Prices) → IsFilled week prices self.now → spot.minute < WEEK_MINUTES →
             CoversRow week self.now.scale.capacity self.now.scale.unit prices (later_spot spot) result }
     {
-        if spot.minute < END {
+        if spot.minute < WEEK_MINUTES {
             return self.row_at(Spot {
                 place: spot.place,
                 minute: spot.minute + 1,
@@ -34,7 +36,7 @@ impl Outlook {
 
     /// Raises a row of the spot, where it is the depot: the driver may stay, or load.
     fn raise_depot(&self, row: &mut [u64; 32], spot: Spot, week: &Week)
-        requires minute { spot.minute ≤ 10080 }
+        requires minute { spot.minute ≤ WEEK_MINUTES }
         requires week { IsWeek week.now }
         ensures grows { Grows row.old row.new }
         ensures home { spot.place ≡ 0 → (level : ℕ) → level < 32 → 2000000000000 ≤ number_at row.new level }
@@ -45,7 +47,7 @@ impl Outlook {
         }
         raise_all(row, NOTHING);
         let end = spot.minute + week.load;
-        if end <= END {
+        if end <= WEEK_MINUTES {
             let next = self.row_at(Spot {
                 place: 0,
                 minute: end,
@@ -57,7 +59,7 @@ impl Outlook {
 
     /// A row for the spot, from the entries of later ones.
     fn best_row(&self, spot: Spot, week: &Week, prices: &Prices) -> [u64; 32]
-        requires minute { spot.minute ≤ 10080 }
+        requires minute { spot.minute ≤ WEEK_MINUTES }
         requires week { IsWeek week.now }
         requires prices { IsPrices week.now prices.now }
         ensures { IsFilled week.now prices.now self.now →
@@ -83,7 +85,7 @@ impl Outlook {
 
     /// Fills the entries of a spot.
     fn fill_spot(&mut self, spot: Spot, week: &Week, prices: &Prices)
-        requires minute { spot.minute ≤ 10080 }
+        requires minute { spot.minute ≤ WEEK_MINUTES }
         requires filled { IsFilled week.now prices.now self.old }
         ensures same { IsSameBut self.old self.new }
         ensures filled { IsFilled week.now prices.now self.new }
@@ -100,7 +102,7 @@ impl Outlook {
 
     /// Fills the entries of a place at a minute: one for each set of the orders that are remembered there.
     fn fill_place(&mut self, place: u32, minute: u32, week: &Week, prices: &Prices)
-        requires minute { minute ≤ 10080 }
+        requires minute { minute ≤ WEEK_MINUTES }
         requires filled { IsFilled week.now prices.now self.old }
         ensures same { IsSameBut self.old self.new }
         ensures filled { IsFilled week.now prices.now self.new }
@@ -119,7 +121,7 @@ impl Outlook {
 
     /// Fills the entries of a minute.
     fn fill_minute(&mut self, minute: u32, week: &Week, prices: &Prices)
-        requires minute { minute ≤ 10080 }
+        requires minute { minute ≤ WEEK_MINUTES }
         requires filled { IsFilled week.now prices.now self.old }
         ensures same { IsSameBut self.old self.new }
         ensures filled { IsFilled week.now prices.now self.new }
@@ -135,7 +137,7 @@ impl Outlook {
         ensures same { IsSameBut self.old self.new }
         ensures filled { IsFilled week.now prices.now self.new }
     {
-        for minute in (0..END + 1).rev() {
+        for minute in (0..WEEK_MINUTES + 1).rev() {
             self.fill_minute(minute, week, prices);
         }
     }
@@ -146,7 +148,7 @@ impl Outlook {
         ensures blank { AreBlank self.new }
     {
         for entry in self.entries.iter_mut() {
-            entry.spot.minute = END + 1;
+            entry.spot.minute = WEEK_MINUTES + 1;
         }
     }
 }

@@ -3,6 +3,9 @@
 #![tactic(auto)]
 
 mod bounds;
+mod choosing;
+#[cfg(test)]
+mod desks;
 mod filling;
 mod laws;
 mod layouts;

@@ -1,6 +1,7 @@
 // What the services at a spot bring.
 ghost use Rattle.std.specs.Prelude.{◌≡◌, ℕ, ◌+◌, ◌≤◌, ◌<◌, ◌^◌, ◌==◌, true, bit_or, IsTrue, Some};
 ghost use Rattle.std.specs.Int.{bit_at};
+ghost use Rattle.minute_line.specs.declared.lines.TheConstants.{WEEK_MINUTES};
 ghost use Rattle.week_book.specs.declared.weeks.Week.{Week};
 ghost use Rattle.week_book.specs.Weeks.{IsWeek, order_of};
 ghost use Rattle.duty_plan.specs.declared.duties.Act.{Act};
@@ -12,8 +13,9 @@ ghost use Rattle.duty_outlook.specs.Outlooks.{AdmitsRow, AdmitsServices, IsFille
 
 use crate::outlooks::Outlook;
 use crate::rows::raise;
-use crate::spots::{END, Spot};
+use crate::spots::Spot;
 use duty_plan::Prices;
+use minute_line::WEEK_MINUTES;
 use week_book::{Order, Week};
 
 /// Whether an order is one of some orders; order n is the bit n.
@@ -35,10 +37,10 @@ pub(crate) fn with_order(orders: u128, number: u32) -> u128
 impl Outlook {
     /// Whether the order's service may start at the spot with an empty lorry before it.
     fn may_serve(&self, spot: Spot, number: u32, order: &Order) -> bool
-        requires minute { spot.minute ≤ 10080 }
+        requires minute { spot.minute ≤ WEEK_MINUTES }
         requires number { number < 128 }
         requires service { order.now.service ≤ 360 }
-        ensures early { IsTrue result → spot.minute + order.now.service ≤ 10080 }
+        ensures early { IsTrue result → spot.minute + order.now.service ≤ WEEK_MINUTES }
         ensures light { IsTrue result → order.now.kg ≤ self.now.scale.capacity }
         ensures all { (week : Week) (load : ℕ) → order_of week number ≡ Some order.now →
             MayStartAt week self.now.scale.capacity spot.orders spot.place spot.minute load (Act.Serve number) → IsTrue result }
@@ -46,14 +48,14 @@ impl Outlook {
         order.place == spot.place
             && order.opens <= spot.minute
             && spot.minute <= order.closes
-            && spot.minute + order.service <= END
+            && spot.minute + order.service <= WEEK_MINUTES
             && order.kg <= self.scale.capacity
             && !has_order(spot.orders, number)
     }
 
     /// Raises a row of the spot by the service of an order, for so many cents.
     fn raise_service(&self, row: &mut [u64; 32], spot: Spot, number: u32, order: &Order, price: u64)
-        requires minute { spot.minute ≤ 10080 }
+        requires minute { spot.minute ≤ WEEK_MINUTES }
         requires number { number < 128 }
         requires service { order.now.service ≤ 360 }
         ensures grows { Grows row.old row.new }
@@ -81,7 +83,7 @@ impl Outlook {
         week: &Week,
         prices: &Prices,
     )
-        requires minute { spot.minute ≤ 10080 }
+        requires minute { spot.minute ≤ WEEK_MINUTES }
         requires week { IsWeek week.now }
         requires prices { IsPrices week.now prices.now }
         ensures grows { Grows row.old row.new }

@@ -3,14 +3,13 @@ ghost use Rattle.std.specs.Prelude.{◌≡◌, ℕ, ◌≤◌, ◌↔◌, IsTrue
 ghost use Rattle.std.specs.Int.{bit_at};
 ghost use Rattle.duty_outlook.specs.Spots.{IsWithin};
 
-/// The last minute of a week.
-pub(crate) const END: u32 = 10_080;
+use minute_line::WEEK_MINUTES;
 
 /// Whether some orders are among others; order n is the bit n.
 fn are_among(orders: u128, others: u128) -> bool
     ensures { IsTrue result → (order : ℕ) → bit_at orders order ≤ bit_at others order }
 {
-    orders & !others == 0
+    orders & others == orders
 }
 
 /// Where and when a driver may be.
@@ -30,7 +29,7 @@ impl Spot {
     {
         (self.place == other.place)
             & (self.minute <= other.minute)
-            & (self.minute <= END)
+            & (self.minute <= WEEK_MINUTES)
             & are_among(self.orders, other.orders)
     }
 }
