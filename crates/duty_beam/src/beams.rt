@@ -1,19 +1,17 @@
-// The search for a good duty, bucket by bucket, with wider and wider beams.
+// The search for a good duty, with wider and wider beams.
 ghost use Rattle.std.specs.Prelude.{◌≡◌, ◌<◌, IfSome, length};
 ghost use Rattle.duty_plan.specs.Duties.{IsCase};
 ghost use Rattle.duty_plan.specs.Values.{IsPairs, IsPrices};
 ghost use Rattle.duty_beam.specs.Asking.{IsAsked};
-ghost use Rattle.duty_beam.specs.Nodes.{AreLabels};
 
 use crate::asking::Asked;
 use crate::confirming::value_of;
-use crate::extending::Origin;
-use crate::nodes::{BUCKETS, Node, Nodes, make_nodes};
+use crate::nodes::make_nodes;
+use crate::searches::Search;
 use duty_label::first;
 use duty_outlook::Outlook;
-use duty_plan::{Act, Case, Pairs, Prices, Step};
-use hours_rules::Stay;
-use minute_line::{Kind, Memory};
+use duty_plan::{Case, Pairs, Prices, Step};
+use minute_line::{Memory, WEEK_MINUTES};
 use std::alloc::Global;
 
 /// The width of the first beam.
@@ -29,30 +27,7 @@ const WIDTHS: [u32; 3] = [NARROWEST, 16, 64];
 const NOTHING_KNOWN: i64 = 1_000_000_000_000;
 
 /// The most steps of a duty: each act takes a minute at least.
-const MOST_STEPS: usize = 10_080;
-
-/// The step that the first node is said to have.
-const NO_STEP: Step = Step {
-    stay: Stay {
-        ready: 0,
-        off: 0,
-        kind: Kind::Plain,
-    },
-    act: Act::Load,
-};
-
-/// A beam's half-made duties, and the best duty that was found.
-#[derive(Drop)]
-pub(crate) struct Search {
-    pub(crate) nodes: Nodes,
-    pub(crate) width: u32,
-    /// The orders that are Forced for the driver; order n is the bit n.
-    pub(crate) forced: u128,
-    /// A duty is sought whose value, in cents, is below this.
-    pub(crate) known: i64,
-    /// The node and the step that end the best duty of this beam.
-    pub(crate) best: Option<(u32, Step)>,
-}
+const MOST_STEPS: usize = WEEK_MINUTES as usize;
 
 /// A search for good duties, and the steps of the last one.
 #[derive(Drop)]
@@ -73,70 +48,6 @@ pub fn make_beam(alloc: Global) -> Result<Beam, Memory> {
         },
         steps: Vec::with_capacity(alloc, MOST_STEPS)?,
     })
-}
-
-impl Search {
-    /// Goes on with the first node of a bucket that may still lead to a better duty. Whether there was one.
-    fn go_on(&mut self, asked: &Asked, bucket: usize) -> bool
-        requires asked { IsAsked asked.now }
-        requires nodes { AreLabels asked.now.case.now asked.now.driver asked.now.prices.now self.old.nodes }
-        ensures { AreLabels asked.now.case.now asked.now.driver asked.now.prices.now self.new.nodes }
-    {
-        let Some(number) = self.nodes.take(bucket) else {
-            return false;
-        };
-        let Some(node) = self.nodes.get(number) else {
-            return false;
-        };
-        if node.bound >= self.known {
-            return false;
-        }
-        let from = Origin {
-            number,
-            label: node.label,
-        };
-        self.extend(asked, &from);
-        true
-    }
-
-    /// Goes on with the nodes of a bucket, the best first.
-    fn run_bucket(&mut self, asked: &Asked, bucket: usize)
-        requires asked { IsAsked asked.now }
-        requires nodes { AreLabels asked.now.case.now asked.now.driver asked.now.prices.now self.old.nodes }
-        ensures { AreLabels asked.now.case.now asked.now.driver asked.now.prices.now self.new.nodes }
-    {
-        for _ in 0..self.width {
-            if !self.go_on(asked, bucket) {
-                return;
-            }
-        }
-    }
-
-    /// Seeks a duty whose value is below a target, with a beam of a width. Whether one was found.
-    fn run(&mut self, asked: &Asked, width: u32, target: i64) -> bool
-        requires { IsAsked asked.now }
-    {
-        let known = self.known;
-        self.width = width;
-        self.known = target;
-        self.best = None;
-        self.nodes.clear();
-        let node = Node {
-            label: first(asked.case, asked.driver),
-            step: NO_STEP,
-            parent: 0,
-            bound: i64::MIN,
-            is_extended: false,
-        };
-        self.nodes.keep(node, width, self.forced);
-        for bucket in 0..BUCKETS {
-            self.run_bucket(asked, bucket);
-        }
-        if self.best.is_none() {
-            self.known = known;
-        }
-        self.best.is_some()
-    }
 }
 
 impl Beam {

@@ -7,8 +7,11 @@ mod asking;
 mod beams;
 mod confirming;
 mod extending;
+mod keeping;
 mod nodes;
 mod prospects;
+mod searches;
+mod staying;
 #[cfg(test)]
 mod tests;
 

@@ -5,7 +5,6 @@ ghost use Rattle.duty_plan.specs.declared.pricing.Prices.{Prices};
 ghost use Rattle.duty_label.specs.Children.{IsLabelOfSome};
 ghost use Rattle.duty_beam.specs.Nodes.{AreLabels};
 
-use dominance::better;
 use duty_plan::{Label, Step};
 use minute_line::Memory;
 use std::alloc::Global;
@@ -34,7 +33,7 @@ pub(crate) struct Node {
 
 impl Node {
     /// The lower of two comes first: by the value that may be hoped for, then by its own.
-    fn rank(&self) -> (i64, i64) {
+    pub(crate) fn rank(&self) -> (i64, i64) {
         (self.bound, self.label.value)
     }
 }
@@ -42,13 +41,13 @@ impl Node {
 /// Half-made duties by the quarter of an hour at which they end.
 #[derive(Drop)]
 pub(crate) struct Nodes {
-    nodes: Vec<Node>,
+    pub(crate) nodes: Vec<Node>,
     /// So many numbers of nodes for each bucket.
-    members: Vec<u32>,
+    pub(crate) members: Vec<u32>,
     /// How many of them are in use.
-    counts: Vec<u32>,
+    pub(crate) counts: Vec<u32>,
     /// Of each bucket that is full, the greatest bound of a node that was not gone on with.
-    floors: Vec<i64>,
+    pub(crate) floors: Vec<i64>,
 }
 
 /// Room for the nodes of the widest beam.
@@ -62,7 +61,7 @@ pub(crate) fn make_nodes(alloc: Global) -> Result<Nodes, Memory> {
 }
 
 /// The bucket of a week minute.
-fn bucket_of(minute: u32) -> usize {
+pub(crate) fn bucket_of(minute: u32) -> usize {
     (minute / QUARTER) as usize
 }
 
@@ -97,7 +96,7 @@ impl Nodes {
     }
 
     /// Puts a node in the place of another, if that is there.
-    fn put(&mut self, number: u32, node: Node)
+    pub(crate) fn put(&mut self, number: u32, node: Node)
         ensures { (case : Case) (driver : ℕ) (prices : Prices) → AreLabels case driver prices self.old →
             IsLabelOfSome case driver prices node.label → AreLabels case driver prices self.new }
     {
@@ -107,7 +106,7 @@ impl Nodes {
     }
 
     /// Adds a node to a bucket, if there is room.
-    fn add(&mut self, bucket: usize, node: Node)
+    pub(crate) fn add(&mut self, bucket: usize, node: Node)
         ensures { (case : Case) (driver : ℕ) (prices : Prices) → AreLabels case driver prices self.old →
             IsLabelOfSome case driver prices node.label → AreLabels case driver prices self.new }
     {
@@ -126,7 +125,7 @@ impl Nodes {
     }
 
     /// How many nodes a bucket has.
-    fn count(&self, bucket: usize) -> u32 {
+    pub(crate) fn count(&self, bucket: usize) -> u32 {
         match self.counts.get(bucket) {
             Some(count) => *count,
             None => 0,
@@ -141,134 +140,12 @@ impl Nodes {
         }
     }
 
-    /// Notes the greatest bound of a bucket, if it is full.
-    fn note_floor(&mut self, bucket: usize, width: u32)
-        ensures { (case : Case) (driver : ℕ) (prices : Prices) → AreLabels case driver prices self.old →
-            AreLabels case driver prices self.new }
-    {
-        if self.count(bucket) < width || bucket >= self.floors.len() {
-            return;
-        }
-        let Some(number) = self.outermost(bucket, false) else {
-            self.floors[bucket] = i64::MIN;
-            return;
-        };
-        if let Some(node) = self.nodes.get(number as usize) {
-            self.floors[bucket] = node.bound;
-        }
-    }
-
     /// The number of a bucket's node.
-    fn member(&self, bucket: usize, place: u32) -> u32 {
+    pub(crate) fn member(&self, bucket: usize, place: u32) -> u32 {
         let member = bucket.saturating_mul(WIDEST).saturating_add(place as usize);
         match self.members.get(member) {
             Some(number) => *number,
             None => u32::MAX,
         }
-    }
-
-    /// Whether a node of the bucket betters a label.
-    fn betters(&self, bucket: usize, label: &Label, forced: u128) -> bool {
-        for place in 0..self.count(bucket) {
-            let node = self.nodes.get(self.member(bucket, place) as usize);
-            if node.is_some_and(|node| node.label.fee_paid && better(&node.label, label, forced)) {
-                return true;
-            }
-        }
-        false
-    }
-
-    /// Gives up a node that a label betters, if it was not gone on with.
-    fn give_up(&mut self, number: u32, label: &Label, forced: u128)
-        ensures { (case : Case) (driver : ℕ) (prices : Prices) → AreLabels case driver prices self.old →
-            AreLabels case driver prices self.new }
-    {
-        let Some(mut node) = self.get(number) else {
-            return;
-        };
-        if node.is_extended || !better(label, &node.label, forced) {
-            return;
-        }
-        node.bound = i64::MAX;
-        self.put(number, node);
-    }
-
-    /// Gives up all such nodes of a bucket, where the label is one after an act.
-    fn give_up_all(&mut self, bucket: usize, label: &Label, forced: u128)
-        ensures { (case : Case) (driver : ℕ) (prices : Prices) → AreLabels case driver prices self.old →
-            AreLabels case driver prices self.new }
-    {
-        if !label.fee_paid {
-            return;
-        }
-        for place in 0..self.count(bucket) {
-            self.give_up(self.member(bucket, place), label, forced);
-        }
-    }
-
-    /// The number of the first node of a bucket, or of the last, of those that were not gone on with.
-    fn outermost(&self, bucket: usize, is_first: bool) -> Option<u32> {
-        let mut found = None;
-        let mut best = (0, 0);
-        for place in 0..self.count(bucket) {
-            let number = self.member(bucket, place);
-            let Some(node) = self.nodes.get(number as usize) else {
-                continue;
-            };
-            let is_better = found.is_none() || (node.rank() < best) == is_first;
-            if !node.is_extended && is_better {
-                best = node.rank();
-                found = Some(number);
-            }
-        }
-        found
-    }
-
-    /// The number of the next node of a bucket to be gone on with, which is then marked.
-    pub(crate) fn take(&mut self, bucket: usize) -> Option<u32>
-        ensures { (case : Case) (driver : ℕ) (prices : Prices) → AreLabels case driver prices self.old →
-            AreLabels case driver prices self.new }
-    {
-        let number = self.outermost(bucket, true)?;
-        let mut node = self.get(number)?;
-        node.is_extended = true;
-        self.put(number, node);
-        Some(number)
-    }
-
-    /// Puts a node into a bucket that has fewer nodes than the beam is wide, or in the place of one that it ranks before.
-    fn insert(&mut self, bucket: usize, node: Node, width: u32)
-        ensures { (case : Case) (driver : ℕ) (prices : Prices) → AreLabels case driver prices self.old →
-            IsLabelOfSome case driver prices node.label → AreLabels case driver prices self.new }
-    {
-        if self.count(bucket) < width {
-            self.add(bucket, node);
-            return;
-        }
-        let Some(number) = self.outermost(bucket, false) else {
-            return;
-        };
-        let Some(last) = self.get(number) else {
-            return;
-        };
-        if last.rank() <= node.rank() {
-            return;
-        }
-        self.put(number, node);
-    }
-
-    /// Keeps a node, if none of its bucket betters it, and if the bucket has fewer nodes than the beam is wide or one that it
-    /// ranks before.
-    pub(crate) fn keep(&mut self, node: Node, width: u32, forced: u128)
-        ensures { (case : Case) (driver : ℕ) (prices : Prices) → AreLabels case driver prices self.old →
-            IsLabelOfSome case driver prices node.label → AreLabels case driver prices self.new }
-    {
-        let bucket = bucket_of(node.label.clock.at);
-        if self.betters(bucket, &node.label, forced) {
-            return;
-        }
-        self.give_up_all(bucket, &node.label, forced);
-        self.insert(bucket, node, width);
-        self.note_floor(bucket, width);
     }
 }

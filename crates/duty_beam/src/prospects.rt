@@ -1,10 +1,8 @@
 // What an act leads to, whatever the stay before it.
 use crate::asking::Asked;
 use duty_plan::{Act, Label};
+use minute_line::WEEK_MINUTES;
 use week_book::{Leg, Order};
-
-/// The last minute of a week.
-pub(crate) const END: u32 = 10_080;
 
 /// An act, and what it leads to.
 #[derive(Clone, Copy)]
@@ -26,7 +24,7 @@ impl Prospect {
             act: Act::Leg(leg.to),
             minutes: leg.minutes,
             opens: 0,
-            closes: END,
+            closes: WEEK_MINUTES,
             after: Label {
                 place: leg.to,
                 value: label.value.saturating_add_unsigned(leg.cents),
@@ -57,7 +55,7 @@ impl Prospect {
             act: Act::Load,
             minutes,
             opens: 0,
-            closes: END,
+            closes: WEEK_MINUTES,
             after: Label {
                 used: 0,
                 loaded: true,
@@ -80,7 +78,7 @@ impl Prospect {
     /// week.
     fn gain(&self, asked: &Asked, start: u32) -> Option<i64> {
         let end = self.end(start);
-        if end > END {
+        if end > WEEK_MINUTES {
             return None;
         }
         let mut label = self.after;

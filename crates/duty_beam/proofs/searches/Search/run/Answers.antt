@@ -1,6 +1,6 @@
 -- The first node has the label of no step.
 use Rattle.std.proofs.Common.{rules}
-use Rattle.duty_beam.proofs.beams.Search.run.Goals as goal
+use Rattle.duty_beam.proofs.searches.Search.run.Goals as goal
 
 pub loop-bucket-init : goal.loop-bucket-init
 loop-bucket-init c =

@@ -1,7 +1,7 @@
 use Rattle.std.proofs.Common.{sym, subst}
 use Rattle.duty_beam.specs.declared.nodes.Nodes.{Nodes}
 use Rattle.duty_beam.specs.Nodes.{AreLabels}
-use Rattle.duty_beam.proofs.beams.Search.note.Goals as goal
+use Rattle.duty_beam.proofs.searches.Search.note.Goals as goal
 
 pub returns-then-node-self : goal.returns-then-node-self
 returns-then-node-self c =
