@@ -19,10 +19,11 @@ use Rattle.dominance.specs.Completions.{AllListedAfter, IsCompletion, delayed}
 use Rattle.dominance.specs.Reaching.{DominatesWithin, IsReach}
 use Rattle.dominance.proofs.Simulating.{simulate_within}
 use Rattle.dominance.proofs.Shifting.{lists_completions}
-use Rattle.duty_pricing.specs.Exhausting.{IsAsLow, MayFollow, IsSpared, IsGrown, IsDone, HaveLabels, AreExhausted, Exhausts, ExhaustsDuties}
+use Rattle.duty_label.specs.Pruning.{Knows}
+use Rattle.duty_pricing.specs.Exhausting.{MayFollow, IsSpared, IsGrown, IsDone, HaveLabels, AreExhausted, Exhausts, ExhaustsDuties}
 use Rattle.duty_pricing.proofs.Completing.{Begins, begins, first-listed, lawful-without, serves-longer, shifted-value, shifted-inside, acts-length}
 
-pub as-low : (known : Option ℤ) (a b : ℤ) → IsAsLow known a → a ≤ℤ b → IsAsLow known b
+pub as-low : (known : Option ℤ) (a b : ℤ) → Knows known a → a ≤ℤ b → Knows known b
 as-low None a b h l = absurd h
 as-low (Some v) a b h l = omega (arith, ints)
 
@@ -30,7 +31,7 @@ as-low (Some v) a b h l = omega (arith, ints)
 abbrev HopelessFor : Case → ℕ → Pairs → Prices → Option ℤ → List Entry → ℕ → Type 0
 HopelessFor case driver pairs prices known entries steps =
     (n : ℕ) (e : Entry) (more : PartialDuty) → slice_get entries n ≡ Some e → length more ≤ steps → IsCompletion case driver e.partial more →
-    IsInside case.week pairs driver (more ++ e.partial) → IsAsLow known (reduced_cost case driver prices (more ++ e.partial))
+    IsInside case.week pairs driver (more ++ e.partial) → Knows known (reduced_cost case driver prices (more ++ e.partial))
 
 -- what an entry that betters a partial duty's label says of the completions of that partial duty
 bettered-low : (case : Case) (driver : ℕ) (pairs : Pairs) (prices : Prices) (known : Option ℤ) (entries : List Entry) → IsCase case →
@@ -39,8 +40,8 @@ bettered-low : (case : Case) (driver : ℕ) (pairs : Pairs) (prices : Prices) (k
     IsReach case driver worse reach → DominatesWithin e.label label (forced_orders case.week pairs driver) reach → IsCompletion case driver worse more →
     IsInside case.week pairs driver (more ++ worse) →
     ((later : PartialDuty) → length later ≡ length more → IsCompletion case driver e.partial later →
-    IsInside case.week pairs driver (later ++ e.partial) → IsAsLow known (reduced_cost case driver prices (later ++ e.partial))) →
-    IsAsLow known (reduced_cost case driver prices (more ++ worse))
+    IsInside case.week pairs driver (later ++ e.partial) → Knows known (reduced_cost case driver prices (later ++ e.partial))) →
+    Knows known (reduced_cost case driver prices (more ++ worse))
 bettered-low case driver pairs prices known entries c labels k e label reach worse more begun is lawful has step in_reach better done inside go =
     let found = labels.each k e is in
     let later = delayed (label.clock.at - e.label.clock.at) more in
@@ -55,9 +56,9 @@ grown-low : (case : Case) (driver : ℕ) (pairs : Pairs) (prices : Prices) (know
     HaveLabels case driver pairs prices entries → (steps : ℕ) → HopelessFor case driver pairs prices known entries steps → (partial : PartialDuty) →
     IsGrown case driver pairs prices known entries partial → (last : Step) (more : PartialDuty) → length (last ∷ more) ≤ suc steps →
     AllListedAfter case.week partial (last ∷ more) → IsCompletion case driver partial (last ∷ more) →
-    IsInside case.week pairs driver ((last ∷ more) ++ partial) → IsAsLow known (reduced_cost case driver prices ((last ∷ more) ++ partial))
+    IsInside case.week pairs driver ((last ∷ more) ++ partial) → Knows known (reduced_cost case driver prices ((last ∷ more) ++ partial))
 grown-low case driver pairs prices known entries c labels steps shorter partial grown last more l listed done inside =
-    subst (λ (x : PartialDuty). IsAsLow known (reduced_cost case driver prices x)) (sym path) (by_spared (grown first.step may))
+    subst (λ (x : PartialDuty). Knows known (reduced_cost case driver prices x)) (sym path) (by_spared (grown first.step may))
   where
     first : Begins (last ∷ more)
     first = begins last more
@@ -85,7 +86,7 @@ grown-low case driver pairs prices known entries c labels steps shorter partial 
     fewer = let e = ap (λ (x : PartialDuty). length x) first.is ∙ length-append first.rest (first.step ∷ []) in omega arith
 
     by_spared : IsSpared case driver pairs prices known entries (first.step ∷ partial) →
-        IsAsLow known (reduced_cost case driver prices (first.rest ++ (first.step ∷ partial)))
+        Knows known (reduced_cost case driver prices (first.rest ++ (first.step ∷ partial)))
     by_spared (inl covered) =
         bettered-low case driver pairs prices known entries c labels covered.number covered.entry covered.label covered.reach (first.step ∷ partial) first.rest
         covered.begun covered.is_entry may.lawful covered.has_label refl covered.in_reach covered.better rest-done rest-inside
@@ -97,7 +98,7 @@ shifted-low : (case : Case) (driver : ℕ) (pairs : Pairs) (prices : Prices) (kn
     HaveLabels case driver pairs prices entries → (steps : ℕ) → HopelessFor case driver pairs prices known entries steps → (partial : PartialDuty) →
     IsGrown case driver pairs prices known entries partial → (last : Step) (more listed : PartialDuty) → length (last ∷ more) ≤ suc steps →
     length listed ≡ length (last ∷ more) → AllListedAfter case.week partial listed → IsCompletion case driver partial listed →
-    IsInside case.week pairs driver (listed ++ partial) → IsAsLow known (reduced_cost case driver prices (listed ++ partial))
+    IsInside case.week pairs driver (listed ++ partial) → Knows known (reduced_cost case driver prices (listed ++ partial))
 shifted-low case driver pairs prices known entries c labels steps shorter partial grown last more [] l e listed done inside =
     absurd (omega arith)
 shifted-low case driver pairs prices known entries c labels steps shorter partial grown last more (step ∷ rest) l e listed done inside =
@@ -108,7 +109,7 @@ one-more : (case : Case) (driver : ℕ) (pairs : Pairs) (prices : Prices) (known
     AreExhausted case driver pairs prices known entries → (steps : ℕ) → HopelessFor case driver pairs prices known entries steps →
     (fuel n : ℕ) (e : Entry) (more : PartialDuty) → length entries ≤ n + fuel → slice_get entries n ≡ Some e → length more ≤ suc steps →
     IsCompletion case driver e.partial more → IsInside case.week pairs driver (more ++ e.partial) →
-    IsAsLow known (reduced_cost case driver prices (more ++ e.partial))
+    Knows known (reduced_cost case driver prices (more ++ e.partial))
 one-more case driver pairs prices known entries c x steps shorter zero n e more f is l done inside =
     absurd (omega (arith, slice_get-lt entries n e is))
 one-more case driver pairs prices known entries c x steps shorter (suc fuel) n e [] f is l done inside = x.shown n e is done.home inside
@@ -118,8 +119,8 @@ one-more case driver pairs prices known entries c x steps shorter (suc fuel) n e
     by_done : IsDone case driver pairs prices known entries n e →
         ((k : ℕ) (other : Entry) (later : PartialDuty) → length entries ≤ k + fuel → slice_get entries k ≡ Some other → length later ≤ suc steps →
         IsCompletion case driver other.partial later → IsInside case.week pairs driver (later ++ other.partial) →
-        IsAsLow known (reduced_cost case driver prices (later ++ other.partial))) →
-        IsAsLow known (reduced_cost case driver prices ((last ∷ more) ++ e.partial))
+        Knows known (reduced_cost case driver prices (later ++ other.partial))) →
+        Knows known (reduced_cost case driver prices ((last ∷ more) ++ e.partial))
     by_done (inl settled) go =
         let found = x.labels.each n e is in
         bettered-low case driver pairs prices known entries c x.labels settled.number settled.other e.label settled.reach e.partial (last ∷ more)
@@ -127,7 +128,7 @@ one-more case driver pairs prices known entries c x steps shorter (suc fuel) n e
         (λ later same d i. go settled.number settled.other later (omega (arith, settled.later)) settled.is_other (omega arith) d i)
     by_done (inr grown) go =
         let shifted = lists_completions case driver e.partial (last ∷ more) c done in
-        subst (λ (v : ℤ). IsAsLow known v) (shifted-value case driver prices e.partial (last ∷ more) shifted.0 shifted.1)
+        subst (λ (v : ℤ). Knows known v) (shifted-value case driver prices e.partial (last ∷ more) shifted.0 shifted.1)
         (shifted-low case driver pairs prices known entries c x.labels steps shorter e.partial grown last more shifted.0 l
         (acts-length shifted.0 (last ∷ more) shifted.1.acts) shifted.1.listed_stays shifted.2
         (shifted-inside case driver pairs e.partial (last ∷ more) shifted.0 shifted.1 inside))
@@ -149,7 +150,7 @@ exhausts case driver pairs prices known entries c x n e is more done inside =
 pub exhausts_duties : ExhaustsDuties
 exhausts_duties case driver pairs prices known entries first c x is empty duty choice =
     let path : partial_of duty ++ first.partial ≡ partial_of duty = ap (λ (y : PartialDuty). partial_of duty ++ y) empty ∙ append-nil (partial_of duty) in
-    subst (λ (y : PartialDuty). IsAsLow known (reduced_cost case driver prices y)) path
+    subst (λ (y : PartialDuty). Knows known (reduced_cost case driver prices y)) path
     (exhausts case driver pairs prices known entries c x 0 first is (partial_of duty)
     (record {
       lawful = subst (λ (y : PartialDuty). IsLawfulPartialDuty case driver y) (sym path) choice.lawful.partial;

@@ -126,15 +126,6 @@ turn-low turn grid (inl e) l = rw e (let x : turn * 15 < 10080 = rw (sym e) l in
 turn-low turn grid (inr (inl e)) l = rw e (let x : turn * 30 < 10080 = rw (sym e) l in omega arith)
 turn-low turn grid (inr (inr e)) l = rw e (let x : turn * 60 < 10080 = rw (sym e) l in omega arith)
 
--- a turn before the minute's is no start
-pub turn-early : (turn at grid : ℕ) → (grid ≡ 15) ⊎ ((grid ≡ 30) ⊎ (grid ≡ 60)) → turn < at / grid → at ≤ turn * grid → ⊥
-turn-early turn at grid (inl e) l h =
-    let x : turn < at / 15 = rw (sym e) l in let y : at ≤ turn * 15 = rw (sym e) h in omega arith
-turn-early turn at grid (inr (inl e)) l h =
-    let x : turn < at / 30 = rw (sym e) l in let y : at ≤ turn * 30 = rw (sym e) h in omega arith
-turn-early turn at grid (inr (inr e)) l h =
-    let x : turn < at / 60 = rw (sym e) l in let y : at ≤ turn * 60 = rw (sym e) h in omega arith
-
 -- where the legs, the orders and the load of a place were tried, so was each act that can be done there
 pub all-acts : (week : Week) (place : ℕ) (P : Act → Type 0) → ((k : ℕ) (leg : Road) → slice_get week.legs k ≡ Some leg → leg.from ≡ place → P (Leg leg.to)) →
     ((order : ℕ) → order < length week.orders → is_at (order_of week order) place ≡ true → P (Serve order)) → (place ≡ 0 → P Load) →

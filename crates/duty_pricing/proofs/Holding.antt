@@ -1,5 +1,5 @@
 -- What a seat holds after a claim, and after a label more.
-use Rattle.std.proofs.Common.{◌≡◌, ◌⊎◌, ℕ, suc, ◌+◌, ◌*◌, ◌/◌, ◌%◌, ◌<◌, ◌≤◌, List, [], ◌∷◌, ◌++◌, length, reverse, All, true, ltb, eqb, cond, refl, ap, sym, subst, ◌∙◌, arith}
+use Rattle.std.proofs.Common.{◌≡◌, ◌⊎◌, ℕ, suc, ◌+◌, ◌/◌, ◌%◌, ◌<◌, ◌≤◌, List, [], ◌∷◌, ◌++◌, length, reverse, All, true, ltb, eqb, cond, refl, ap, sym, subst, ◌∙◌, arith}
 use Rattle.std.proofs.lemmas.Bool.Decides.{nat_tests}
 use Rattle.std.proofs.lemmas.List.{reverse-append}
 use Rattle.std.proofs.lemmas.List.Elements.{All-push}
@@ -12,7 +12,7 @@ use Rattle.duty_plan.proofs.SharedRounds.{chunks-push}
 use Rattle.duty_pricing.specs.declared.asking.Asked.{Asked}
 use Rattle.duty_pricing.specs.declared.stores.LabelStore.{LabelStore}
 use Rattle.duty_pricing.specs.declared.slots.Slot.{Slot}
-use Rattle.duty_pricing.specs.Holding.{HoldsChunks, IsFullSeat, IsOpenSeat}
+use Rattle.duty_pricing.specs.Holding.{IsFullSeat, IsOpenSeat}
 use Rattle.duty_pricing.specs.Searching.{IsFull, IsOpen}
 use Rattle.duty_pricing.specs.Finding.{HoldsStore, IsSeated}
 use Rattle.duty_pricing.specs.Slots.{entries_of}

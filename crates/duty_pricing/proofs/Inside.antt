@@ -14,7 +14,7 @@ use Rattle.duty_plan.specs.Values.{IsInside, pair_at}
 use Rattle.duty_plan.specs.Labels.{bits_below, forced_orders, is_forced}
 use Rattle.duty_plan.proofs.Bits.{served_bits, test_bits}
 use Rattle.duty_label.specs.Children.{HasLabel}
-use Rattle.duty_pricing.specs.Exhausting.{KeepsBarred}
+use Rattle.dominance.specs.Reaching.{ServesNoBarred}
 
 bit-if : (test : Bool) (n k : ℕ) → k ≢ n → bit_at (cond test (2 ^ n) 0) k ≡ 0
 bit-if true n k h = bit_at-pow_other n k h
@@ -36,7 +36,7 @@ module _ (case : Case) (driver : ℕ) (pairs : Pairs) (prices : Prices) (partial
   bit-served o = ap (λ (x : ℕ). bit_at x o) has.label_of.served ∙ served_bits o partial
 
   -- where all forced orders are served, the partial duty is inside, if it keeps off the barred ones
-  pub all-inside : KeepsBarred case driver pairs partial → ((o : ℕ) → bit_at (forced_orders case.week pairs driver) o ≤ bit_at label.served o) →
+  pub all-inside : ServesNoBarred case.week pairs driver partial → ((o : ℕ) → bit_at (forced_orders case.week pairs driver) o ≤ bit_at label.served o) →
       IsInside case.week pairs driver partial
   all-inside keeps all = record { forced = λ o l p. by_serves o l p (serves o partial) refl; barred = keeps }
     where

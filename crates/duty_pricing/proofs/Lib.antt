@@ -9,10 +9,15 @@ pub mod Fields
 pub mod Pruned
 pub mod Holding
 pub mod Searching
+pub mod Learning
 pub mod Inside
+pub mod Following
 pub mod Trying
 pub mod Going
 pub mod Ruling
+pub mod Resting
 pub mod Visiting
 pub mod Beginning
+pub mod Answering
 pub mod Chunking
+pub mod Filling

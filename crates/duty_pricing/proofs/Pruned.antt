@@ -1,6 +1,6 @@
 -- What the walks and the outlook say of a label's completions.
-use Rattle.std.proofs.Common.{◌≡◌, ℕ, ◌<◌, Bool, true, false, ◌++◌, Option, Some, None, ap, sym, subst, ◌∙◌, arith}
-use Rattle.std.specs.Prelude.{ℤ, ◌<ℤ◌}
+use Rattle.std.proofs.Common.{◌≡◌, ℕ, Bool, true, false, ◌++◌, Option, Some, None, sym, subst, arith}
+use Rattle.std.specs.Prelude.{ℤ}
 use Rattle.std.proofs.lemmas.Int.{ints}
 use Rattle.duty_plan.specs.declared.plans.Case.{Case}
 use Rattle.duty_plan.specs.declared.deciding.Pairs.{Pairs}
@@ -8,17 +8,17 @@ use Rattle.duty_plan.specs.declared.pricing.Prices.{Prices}
 use Rattle.duty_plan.specs.declared.labels.Label.{Label}
 use Rattle.duty_plan.specs.PartialDuties.{PartialDuty}
 use Rattle.duty_plan.specs.Values.{IsInside, reduced_cost}
-use Rattle.duty_plan.specs.LabelLists.{completion_bound}
 use Rattle.duty_plan.specs.Labels.{IsLabelOf}
 use Rattle.duty_label.specs.declared.walks.Walks.{Walks}
 use Rattle.duty_label.specs.Pruning.{AreWalksOf, IsHopeless as IsPruned, IsWayHome, Knows}
 use Rattle.duty_label.proofs.Prunes.{prunes_soundly, keeps_hopeful, keeps_on_time}
 use Rattle.duty_outlook.specs.Laws.{HasNoBelow}
 use Rattle.dominance.specs.Completions.{IsCompletion}
-use Rattle.duty_pricing.specs.Exhausting.{IsAsLow, IsHopeless}
+use Rattle.duty_label.specs.Pruning.{Knows}
+use Rattle.duty_pricing.specs.Exhausting.{IsHopeless}
 use Rattle.duty_pricing.specs.Storing.{IsHopeful, IsOnTime}
 
-as-low : (known : Option ℤ) (value : ℤ) → Knows known value → IsAsLow known value
+as-low : (known : Option ℤ) (value : ℤ) → Knows known value → Knows known value
 as-low None value h = h
 as-low (Some known) value h = h
 
@@ -30,7 +30,7 @@ module _ (case : Case) (driver : ℕ) (pairs : Pairs) (prices : Prices) (partial
   pub outlook-hopeless : (known : Option ℤ) (value : ℤ) → known ≡ Some value → HasNoBelow case driver pairs prices partial value →
       IsHopeless case driver pairs prices known partial
   outlook-hopeless known value is below more done inside =
-      subst (λ (o : Option ℤ). IsAsLow o (reduced_cost case driver prices (more ++ partial))) (sym is)
+      subst (λ (o : Option ℤ). Knows o (reduced_cost case driver prices (more ++ partial))) (sym is)
       (below more (way-home case driver pairs partial more done inside))
 
   module _ (walks : Walks) (known : Option ℤ) (label : Label) (is : IsLabelOf case driver prices label partial) where

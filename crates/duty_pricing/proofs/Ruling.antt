@@ -1,12 +1,11 @@
 -- Rests that are ruled out, and rests that need not be tried.
-use Rattle.std.proofs.Common.{◌≡◌, ◌⊎◌, inl, inr, ℕ, ◌+◌, ◌-◌, ◌*◌, ◌/◌, ◌<◌, ◌≤◌, min, Bool, true, false, ◌&&◌, leb, eqb, List, ◌∷◌, refl, ap, sym, subst, ◌∙◌, arith, le_refl, Option, Some, slice_get}
+use Rattle.std.proofs.Common.{◌≡◌, ◌⊎◌, inl, inr, ℕ, ◌+◌, ◌*◌, ◌/◌, ◌<◌, ◌≤◌, min, Bool, true, false, ◌∷◌, refl, ap, sym, subst, ◌∙◌, arith, le_refl, Option, Some, slice_get}
 use Rattle.std.proofs.lemmas.Int.{ints}
 use Rattle.std.proofs.lemmas.Bool.{cases_lt, eqb-true}
 use Rattle.std.proofs.lemmas.Bool.Decides.{nat_tests}
 use Rattle.minute_line.specs.declared.marks.Kind.{Kind}
 use Rattle.minute_line.specs.declared.marks.Kind.TheVariants.{Plain, Daily, Weekly}
 use Rattle.minute_line.specs.Marks.{is_rest}
-use Rattle.hours_rules.specs.declared.clocks.Stay.{Stay}
 use Rattle.week_book.specs.declared.weeks.Order.{Order}
 use Rattle.week_book.specs.declared.weeks.Week.{Week}
 use Rattle.week_book.specs.Weeks.{order_of}
@@ -28,7 +27,6 @@ use Rattle.duty_pricing.specs.declared.stores.LabelStore.{LabelStore}
 use Rattle.duty_pricing.specs.declared.tried.Tried.{Tried}
 use Rattle.duty_pricing.specs.declared.tried.Tried.TheVariants.{Full, Done, RuledOut}
 use Rattle.duty_pricing.specs.Asking.{IsAsked}
-use Rattle.duty_pricing.specs.Exhausting.{MayFollow}
 use Rattle.duty_pricing.specs.Listing.{rest_stay}
 use Rattle.duty_pricing.specs.Slots.{entries_of}
 use Rattle.duty_pricing.specs.Searching.{HasTried, IsSearch, MayExtend, OnTried, RulesOut}

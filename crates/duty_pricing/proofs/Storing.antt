@@ -13,7 +13,8 @@ use Rattle.duty_plan.specs.Values.{IsInside, pair_at, reduced_cost}
 use Rattle.duty_plan.specs.Labels.{Dominates, closes_of, forced_orders, has_step}
 use Rattle.duty_plan.specs.LabelLists.{Entry, IsEntry, IsExtended, IsLabelList, completion_bound}
 use Rattle.duty_plan.proofs.Lists.{slice_get-lt}
-use Rattle.duty_pricing.specs.Exhausting.{IsAsLow, IsSpared, IsDone, IsKnown, HaveLabels}
+use Rattle.duty_label.specs.Pruning.{Knows}
+use Rattle.duty_pricing.specs.Exhausting.{IsSpared, IsDone, IsKnown, HaveLabels}
 use Rattle.duty_pricing.specs.Storing.{AreExtendedBy, IsOnTime, IsHopeful, IsNewEntry, IsNoHigher}
 use Rattle.duty_pricing.proofs.Elements.{get-longer, get-push, length-push}
 
@@ -22,7 +23,7 @@ not-le : (a b : ℤ) → (a ≤ℤ b → ⊥) → b <ℤ a
 not-le a b h = grind (arith, ints)
 
 -- what is known is below what may be hoped for, or that bound is below each value that is as high as what is known
-below-known : (known : Option ℤ) (hoped value : ℤ) → (IsAsLow known hoped → ⊥) → IsAsLow known value → hoped <ℤ value
+below-known : (known : Option ℤ) (hoped value : ℤ) → (Knows known hoped → ⊥) → Knows known value → hoped <ℤ value
 below-known None hoped value h k = absurd k
 below-known (Some v) hoped value h k = let l : hoped <ℤ v = not-le v hoped h in omega (arith, ints)
 

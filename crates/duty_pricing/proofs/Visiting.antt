@@ -26,7 +26,7 @@ use Rattle.duty_pricing.proofs.Entries.{entries-more, entry-of, slot-of}
 use Rattle.duty_pricing.proofs.Links.{lt-or}
 use Rattle.duty_pricing.proofs.Storing.{done-longer}
 use Rattle.duty_pricing.proofs.Searching.{entry-stays}
-use Rattle.duty_pricing.proofs.Trying.{place-in}
+use Rattle.duty_pricing.proofs.Following.{place-in}
 
 some-same : {X : Type 0} (a b : X) → Some a ≡ Some b → a ≡ b
 some-same a b h = cc
@@ -36,13 +36,20 @@ module _ (asked : Asked) (minute : ℕ) (store : LabelStore) (n : ℕ) (label : 
   is-entry : IsEntry asked.case.now asked.driver asked.pairs.now asked.prices.now x.entry
   is-entry = s.list.entry n x.entry x.is_entry
 
-  -- the label's place has a head
-  pub entry-place : label.place < length store.places.items
+  -- the label's place is one of a week
+  pub entry-place : label.place < 64
   entry-place =
       let low = place-in asked.case.now.week (open_off_at asked.case.now asked.driver) (capacity_at asked.case.now asked.driver) x.entry.partial
       is.is_case.week is-entry.lawful.office in
       let same = ap (λ (l : Label). l.place) x.is_label in
-      let few = is.is_case.week.places in omega (arith, is-entry.label.place, s.places_all)
+      let few = is.is_case.week.places in omega (arith, is-entry.label.place)
+
+  -- and its minute
+  pub entry-minute : label.clock.at ≤ 10080
+  entry-minute =
+      let low = early asked.case.now.week (open_off_at asked.case.now asked.driver) (capacity_at asked.case.now asked.driver) x.entry.partial
+      is-entry.lawful.office in
+      let same = ap (λ (l : Label). l.clock.at) x.is_label in omega (arith, is-entry.label.clock.at)
 
   -- where no later slot betters it, none does, since no earlier one does
   pub may-begin : (IsSettledAt asked store n label → ⊥) → MayExtend asked store n label
@@ -134,7 +141,7 @@ search-later asked minute later store l s = record {
   shown = s.shown;
   has_best = s.has_best;
   minutes_all = s.minutes_all;
-  places_all = s.places_all;
+  cells_all = s.cells_all;
 }
 
 -- each slot ends in the week

@@ -1,42 +1,32 @@
 -- When no lawful duty inside is worth less than what the stored labels of a driver have shown.
-use Rattle.std.specs.Prelude.{◌≡◌, ◌⊎◌, ℕ, ◌<◌, true, false, List, [], ◌∷◌, ◌++◌, length, ℤ, ◌≤ℤ◌, Option, Some, None, slice_get}
+use Rattle.std.specs.Prelude.{◌≡◌, ◌⊎◌, ℕ, ◌<◌, true, List, [], ◌∷◌, ◌++◌, ℤ, Option, Some, slice_get}
 use Rattle.duty_plan.specs.declared.duties.Duty.{Duty}
 use Rattle.duty_plan.specs.declared.duties.Step.{Step}
 use Rattle.duty_plan.specs.declared.plans.Case.{Case}
-use Rattle.duty_plan.specs.declared.deciding.Pair.TheVariants.{Barred}
 use Rattle.duty_plan.specs.declared.deciding.Pairs.{Pairs}
 use Rattle.duty_plan.specs.declared.pricing.Prices.{Prices}
 use Rattle.duty_plan.specs.declared.labels.Label.{Label}
-use Rattle.duty_plan.specs.PartialDuties.{PartialDuty, place_after, serves}
+use Rattle.duty_plan.specs.PartialDuties.{PartialDuty, place_after}
 use Rattle.duty_plan.specs.Duties.{EachOf, IsCase, IsLawfulPartialDuty, partial_of}
-use Rattle.duty_plan.specs.Values.{IsInside, IsChoice, pair_at, reduced_cost}
+use Rattle.duty_plan.specs.Values.{IsInside, IsChoice, reduced_cost}
 use Rattle.duty_plan.specs.Labels.{IsLabelOf, forced_orders, has_step, is_listed}
 use Rattle.duty_plan.specs.LabelLists.{Entry}
 use Rattle.duty_label.specs.Children.{HasLabel}
+use Rattle.duty_label.specs.Pruning.{Knows}
 use Rattle.dominance.specs.Completions.{IsCompletion}
-use Rattle.dominance.specs.Reaching.{DominatesWithin, IsReach}
-
--- a value is known, and it is no larger than this one
-abbrev pub IsAsLow : Option ℤ → ℤ → Type 0
-IsAsLow None value = ⊥
-IsAsLow (Some known) value = known ≤ℤ value
+use Rattle.dominance.specs.Reaching.{DominatesWithin, IsReach, ServesNoBarred}
 
 -- no lawful duty inside that begins with the partial duty is worth less than what is known; where nothing is known there is none
 abbrev pub IsHopeless : Case → ℕ → Pairs → Prices → Option ℤ → PartialDuty → Type 0
 IsHopeless case driver pairs prices known partial =
     (more : PartialDuty) → IsCompletion case driver partial more → IsInside case.week pairs driver (more ++ partial) →
-    IsAsLow known (reduced_cost case driver prices (more ++ partial))
-
--- the partial duty serves no order that is Barred for the driver
-abbrev pub KeepsBarred : Case → ℕ → Pairs → PartialDuty → Type 0
-KeepsBarred case driver pairs partial =
-    (order : ℕ) → order < length case.week.orders → pair_at pairs driver order ≡ Barred → serves order partial ≡ false
+    Knows known (reduced_cost case driver prices (more ++ partial))
 
 -- a step that must be tried after a partial duty: its stay is listed, and the longer partial duty is lawful and serves no Barred order
 pub record MayFollow (case : Case) (driver : ℕ) (pairs : Pairs) (step : Step) (before : PartialDuty) : Type 0 where
   pub listed : is_listed case.week step before ≡ true
   pub lawful : IsLawfulPartialDuty case driver (step ∷ before)
-  pub unbarred : KeepsBarred case driver pairs (step ∷ before)
+  pub unbarred : ServesNoBarred case.week pairs driver (step ∷ before)
 
 -- an entry but the first betters the label of the partial duty, where orders out of its reach are ignored; so it is where that
 -- label is an entry's
@@ -81,12 +71,12 @@ IsDone case driver pairs prices known entries n entry =
 abbrev pub IsKnown : Case → ℕ → Pairs → Prices → Option ℤ → Entry → Type 0
 IsKnown case driver pairs prices known entry =
     place_after entry.partial ≡ 0 → IsInside case.week pairs driver entry.partial →
-    IsAsLow known (reduced_cost case driver prices entry.partial)
+    Knows known (reduced_cost case driver prices entry.partial)
 
 -- each entry has the label of a lawful partial duty that serves no Barred order, and each but the first has a step
 pub record HaveLabels (case : Case) (driver : ℕ) (pairs : Pairs) (prices : Prices) (entries : List Entry) : Type 0 where
   pub each : EachOf (λ n e. HasLabel case driver prices e.partial e.label) entries
-  pub unbarred : EachOf (λ n e. KeepsBarred case driver pairs e.partial) entries
+  pub unbarred : EachOf (λ n e. ServesNoBarred case.week pairs driver e.partial) entries
   pub begun : (n : ℕ) (e : Entry) → 0 < n → slice_get entries n ≡ Some e → has_step e.partial ≡ true
 
 -- all entries are done with, and what is known is as low as each lawful duty inside among them
@@ -105,4 +95,4 @@ Exhausts = (case : Case) (driver : ℕ) (pairs : Pairs) (prices : Prices) (known
 abbrev pub ExhaustsDuties : Type 0
 ExhaustsDuties = (case : Case) (driver : ℕ) (pairs : Pairs) (prices : Prices) (known : Option ℤ) (entries : List Entry) (first : Entry) →
     IsCase case → AreExhausted case driver pairs prices known entries → slice_get entries 0 ≡ Some first → first.partial ≡ [] →
-    (duty : Duty) → IsChoice case driver pairs duty → IsAsLow known (reduced_cost case driver prices (partial_of duty))
+    (duty : Duty) → IsChoice case driver pairs duty → Knows known (reduced_cost case driver prices (partial_of duty))

@@ -1,5 +1,6 @@
 -- What a pricing answers for one driver.
-use Rattle.std.specs.Prelude.{◌≡◌, ℕ, [], length, List, ℤ, None}
+use Rattle.std.specs.Prelude.{◌≡◌, ◌+◌, ℕ, [], length, List, ℤ, None}
+use Rattle.minute_line.specs.declared.lines.TheConstants.{WEEK_MINUTES}
 use Rattle.label_arena.specs.Views.{RoundView, SeatView}
 use Rattle.duty_plan.specs.declared.duties.Duty.{Duty}
 use Rattle.duty_plan.specs.declared.plans.Case.{Case}
@@ -16,17 +17,17 @@ use Rattle.duty_pricing.specs.declared.stores.LabelStore.{LabelStore}
 use Rattle.duty_pricing.specs.Holding.{HoldsChunks}
 use Rattle.duty_pricing.specs.Slots.{AreChained, entries_of}
 
--- room for the minutes of any week and for its places
+-- room for the minutes of any week, and for the hours of each place
 pub record StoreHasRoom (store : LabelStore) : Type 0 where
-  pub minutes : length store.minutes.items ≡ 10081
-  pub places : length store.places.items ≡ 64
+  pub minutes : length store.minutes.items ≡ WEEK_MINUTES + 1
+  pub cells : length store.cells.items ≡ 10816
 
 -- no label is stored, and no chunk is held
 pub record IsEmptyStore (store : LabelStore) : Type 0 where
   pub none : store.slots ≡ []
   pub no_chunk : store.numbers ≡ []
   pub unknown : store.known ≡ None
-  pub chained : AreChained store.minutes.items store.places.items []
+  pub chained : AreChained store.minutes.items store.cells.items []
   pub room : StoreHasRoom store
 
 -- the seat holds the chunks of the store: all that it drew, all full but at most one
@@ -61,7 +62,7 @@ IsSeated asked seat store =
 abbrev pub entries_in : Scratch → List Entry
 entries_in scratch = entries_of scratch.labels.slots
 
--- it has room for the minutes of any week and for its places
+-- it has room for the minutes of any week, and for the hours of each place
 abbrev pub HasRoom : Scratch → Type 0
 HasRoom scratch = StoreHasRoom scratch.labels
 

@@ -1,5 +1,6 @@
 -- The stays and the acts that are tried after a partial duty: each step that must be tried has one of these stays.
 use Rattle.std.specs.Prelude.{◌≡◌, ◌⊎◌, ℕ, ◌+◌, ◌-◌, ◌*◌, ◌<◌, ◌≤◌, true}
+use Rattle.minute_line.specs.declared.lines.TheConstants.{WEEK_MINUTES}
 use Rattle.minute_line.specs.declared.marks.Kind.{Kind}
 use Rattle.minute_line.specs.declared.marks.Kind.TheVariants.{Plain, Daily, Weekly}
 use Rattle.hours_rules.specs.declared.clocks.Stay.{Stay}
@@ -34,7 +35,7 @@ pub record IsPlainStay (week : Week) (at : ℕ) (act : Act) (stay : Stay) : Type
 pub record IsRestStay (week : Week) (at : ℕ) (stay : Stay) : Type 0 where
   pub turn : ℕ
   pub late : at ≤ turn * week.grid
-  pub in_week : turn * week.grid < 10080
+  pub in_week : turn * week.grid < WEEK_MINUTES
   pub is : (stay ≡ rest_stay at Daily (turn * week.grid)) ⊎ (stay ≡ rest_stay at Weekly (turn * week.grid))
 
 -- a stay that is tried before the act, from a week minute on

@@ -1,5 +1,6 @@
 -- A pricing under way: its stored labels are a label list, and the best duty among them is known.
-use Rattle.std.specs.Prelude.{◌≡◌, ◌⊎◌, ℕ, ◌<◌, ◌≤◌, true, List, ◌∷◌, ◌++◌, length, ℤ, Option, None, Some, slice_get}
+use Rattle.std.specs.Prelude.{◌≡◌, ◌⊎◌, ℕ, ◌+◌, ◌<◌, ◌≤◌, true, List, ◌∷◌, ◌++◌, length, ℤ, Option, None, Some, slice_get}
+use Rattle.minute_line.specs.declared.lines.TheConstants.{WEEK_MINUTES}
 use Rattle.duty_plan.specs.declared.duties.Step.{Step}
 use Rattle.duty_plan.specs.declared.labels.Label.{Label}
 use Rattle.duty_plan.specs.PartialDuties.{PartialDuty, place_after}
@@ -15,7 +16,8 @@ use Rattle.duty_pricing.specs.declared.slots.Slot.{Slot}
 use Rattle.duty_outlook.specs.Laws.{IsNoSooner}
 use Rattle.label_arena.specs.Views.{SeatView}
 use Rattle.duty_beam.specs.Finding.{IsDutyOf}
-use Rattle.duty_pricing.specs.Exhausting.{IsAsLow, IsHopeless, IsKnown, IsSpared, MayFollow}
+use Rattle.duty_label.specs.Pruning.{Knows}
+use Rattle.duty_pricing.specs.Exhausting.{IsHopeless, IsKnown, IsSpared, MayFollow}
 use Rattle.duty_pricing.specs.Holding.{IsFullSeat, IsOpenSeat}
 use Rattle.duty_pricing.specs.Slots.{AreChained, entries_of, partial_at}
 use Rattle.duty_pricing.specs.Storing.{AreExtendedBy, IsNewEntry, IsNoHigher, IsUnbettered}
@@ -36,13 +38,13 @@ IsBest asked entries (Some number) value = HasBest asked entries number value
 -- the stored labels are chained and a label list, each that was extended ends by the minute, and what is known is the least
 -- value of the lawful duties inside among them and of the one that was found beforehand
 pub record IsSearch (asked : Asked) (minute : ℕ) (store : LabelStore) : Type 0 where
-  pub chained : AreChained store.minutes.items store.places.items store.slots
+  pub chained : AreChained store.minutes.items store.cells.items store.slots
   pub list : IsLabelList asked.case.now asked.driver asked.pairs.now asked.prices.now (entries_of store.slots)
   pub extended : AreExtendedBy minute (entries_of store.slots)
   pub shown : EachOf (λ n e. IsKnown asked.case.now asked.driver asked.pairs.now asked.prices.now store.known e) (entries_of store.slots)
   pub has_best : (value : ℤ) → store.known ≡ Some value → IsBest asked (entries_of store.slots) store.best value
-  pub minutes_all : length store.minutes.items ≡ 10081
-  pub places_all : length store.places.items ≡ 64
+  pub minutes_all : length store.minutes.items ≡ WEEK_MINUTES + 1
+  pub cells_all : length store.cells.items ≡ 10816
 
 -- the seat holds the chunks of the stored labels, and was not answered Full
 abbrev pub IsOpen : Asked → SeatView → LabelStore → Type 0
@@ -107,9 +109,9 @@ pub record Learns (old new : LabelStore) (value : ℤ) (number : ℕ) : Type 0 w
   pub same_slots : new.slots ≡ old.slots
   pub same_numbers : new.numbers ≡ old.numbers
   pub same_minutes : new.minutes.items ≡ old.minutes.items
-  pub same_places : new.places.items ≡ old.places.items
+  pub same_cells : new.cells.items ≡ old.cells.items
   pub low : IsNoHigher old.known new.known
-  pub as_low : IsAsLow new.known value
+  pub as_low : Knows new.known value
   pub from : ((new.known ≡ old.known) × (new.best ≡ old.best)) ⊎ ((new.known ≡ Some value) × (new.best ≡ Some number))
 
 -- after some steps were tried after slot n: the pricing is under way at the label's minute, the slot may be extended still, and

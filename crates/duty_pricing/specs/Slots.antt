@@ -1,5 +1,5 @@
 -- The entries that slots stand for, and the links between slots.
-use Rattle.std.specs.Prelude.{◌≡◌, ℕ, zero, suc, ◌<◌, Bool, false, ◌==◌, if◌then◌else◌, List, [], ◌∷◌, ◌++◌, length, Option, Some, None, slice_get, slice_index}
+use Rattle.std.specs.Prelude.{◌≡◌, ℕ, zero, suc, ◌+◌, ◌*◌, ◌/◌, ◌<◌, ◌≤ℤ◌, pos, Bool, false, ◌==◌, if◌then◌else◌, List, [], ◌∷◌, ◌++◌, length, Option, Some, None, slice_get, slice_index}
 use Rattle.std.specs.List.{fold}
 use Rattle.duty_plan.specs.declared.duties.Step.{Step}
 use Rattle.duty_plan.specs.declared.labels.Label.{Label}
@@ -50,17 +50,26 @@ pub record AreLinked (key link : Slot → ℕ) (heads : List ℕ) (slots : List 
   pub heads_lead : (k : ℕ) → k < length heads → slice_index heads k ≡ latest (has_key key slots k) (length slots)
   pub links_lead : (n : ℕ) (slot : Slot) → slice_get slots n ≡ Some slot → link slot ≡ latest (has_key key slots (key slot)) n
 
--- the minute and the place of a slot's label
+-- the minute of a slot's label
 abbrev pub minute_of : Slot → ℕ
 minute_of slot = slot.label.clock.at
 
-abbrev pub place_of : Slot → ℕ
-place_of slot = slot.label.place
+-- the cell of a place and an hour: a place has the 169 hours of a week's minutes, from 0 to 10,080
+abbrev pub cell_at : ℕ → ℕ → ℕ
+cell_at place hour = place * 169 + hour
 
--- the slots of a minute and those of a place are linked
-pub record AreChained (minutes places : List ℕ) (slots : List Slot) : Type 0 where
+-- the cell of a slot's label
+abbrev pub cell_of : Slot → ℕ
+cell_of slot = cell_at slot.label.place (slot.label.clock.at / 60)
+
+-- the slots of a minute and those of a cell are linked
+pub record AreChained (minutes cells : List ℕ) (slots : List Slot) : Type 0 where
   pub by_minute : AreLinked minute_of (λ slot. slot.same_minute) minutes slots
-  pub by_place : AreLinked place_of (λ slot. slot.same_place) places slots
+  pub by_cell : AreLinked cell_of (λ slot. slot.same_cell) cells slots
+
+-- the work day of each slot's label began at its minute or before it
+abbrev pub HaveDays : List Slot → Type 0
+HaveDays slots = (n : ℕ) (slot : Slot) → slice_get slots n ≡ Some slot → slot.label.clock.day_from ≤ℤ pos slot.label.clock.at
 
 -- one slot more, with a label, a step and a parent
 pub record AddsSlot (label : Label) (step : Step) (parent : ℕ) (old new : List Slot) : Type 0 where

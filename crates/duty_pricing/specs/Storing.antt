@@ -11,7 +11,7 @@ use Rattle.duty_plan.specs.PartialDuties.{PartialDuty, at_after, serves}
 use Rattle.duty_plan.specs.Values.{pair_at}
 use Rattle.duty_plan.specs.Labels.{Dominates, closes_of, forced_orders}
 use Rattle.duty_plan.specs.LabelLists.{Entry, IsEntry, completion_bound}
-use Rattle.duty_pricing.specs.Exhausting.{IsAsLow}
+use Rattle.duty_label.specs.Pruning.{Knows}
 
 -- no entry but the first betters the label, the entry of that number aside
 abbrev pub IsUnbettered : Case → ℕ → Pairs → List Entry → ℕ → Label → Type 0
@@ -33,7 +33,7 @@ IsOnTime case driver pairs partial =
 
 -- less may be hoped for than what is known
 abbrev pub IsHopeful : Case → ℕ → Pairs → Prices → Option ℤ → PartialDuty → Type 0
-IsHopeful case driver pairs prices known partial = IsAsLow known (completion_bound case driver pairs prices partial) → ⊥
+IsHopeful case driver pairs prices known partial = Knows known (completion_bound case driver pairs prices partial) → ⊥
 
 -- what the tests of a child at a minute show: it goes on from an entry of that minute which no other betters, it ends later,
 -- no entry betters it, it is on time, and its completion bound is below what is known
@@ -54,4 +54,4 @@ pub record IsNewEntry (case : Case) (driver : ℕ) (pairs : Pairs) (prices : Pri
 
 -- what was as low still is
 abbrev pub IsNoHigher : Option ℤ → Option ℤ → Type 0
-IsNoHigher old new = (value : ℤ) → IsAsLow old value → IsAsLow new value
+IsNoHigher old new = (value : ℤ) → Knows old value → Knows new value

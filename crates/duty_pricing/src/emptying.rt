@@ -7,14 +7,14 @@ use crate::chunks::Chunks;
 use crate::numbers::Numbers;
 use crate::steps::Steps;
 use crate::stores::LabelStore;
-use minute_line::Memory;
+use minute_line::{Memory, WEEK_MINUTES};
 use std::alloc::Global;
 
 /// The minutes at which a label may end: those of a week, from 0 to 10,080.
-const MINUTES: usize = 10_081;
+const MINUTES: usize = WEEK_MINUTES as usize + 1;
 
-/// The most places of a week.
-const PLACES: usize = 64;
+/// The cells of the most places of a week, each with the hours from 0 to 168.
+const CELLS: usize = 64 * 169;
 
 /// No label, and room for those of 2,048 chunks.
 pub(crate) fn make_store(alloc: Global) -> Result<LabelStore, Memory>
@@ -24,7 +24,7 @@ pub(crate) fn make_store(alloc: Global) -> Result<LabelStore, Memory>
         slots: Chunks::with_room(alloc)?,
         numbers: Numbers::with_room(alloc)?,
         minutes: vec![in alloc; 0; MINUTES]?,
-        places: vec![in alloc; 0; PLACES]?,
+        cells: vec![in alloc; 0; CELLS]?,
         known: None,
         best: None,
         steps: Steps::with_room(alloc)?,
@@ -44,13 +44,13 @@ impl LabelStore {
     /// Forgets the heads of all links, and what is known.
     pub(crate) fn forget(&mut self)
         requires { StoreHasRoom self.old }
-        ensures heads { AreChained self.new.minutes.items self.new.places.items [] }
+        ensures heads { AreChained self.new.minutes.items self.new.cells.items [] }
         ensures room { StoreHasRoom self.new }
         ensures known { self.new.known ≡ None }
         ensures same { (self.new.slots ≡ self.old.slots) × (self.new.numbers ≡ self.old.numbers) }
     {
         clear(self.minutes.as_mut_slice());
-        clear(self.places.as_mut_slice());
+        clear(self.cells.as_mut_slice());
         self.known = None;
     }
 }

@@ -13,7 +13,7 @@ impl LabelStore {
         requires holds { HoldsStore round.now seat.old self.old }
         ensures empty { (self.new.slots ≡ []) × (self.new.numbers ≡ []) }
         ensures seat { HasGivenAll seat.old seat.new }
-        ensures same { (self.new.minutes ≡ self.old.minutes) × (self.new.places ≡ self.old.places) }
+        ensures same { (self.new.minutes ≡ self.old.minutes) × (self.new.cells ≡ self.old.cells) }
     {
         'giving: while let Some(number) = self.numbers.pop() {
             let Some(chunk) = self.slots.pop() else {

@@ -5,6 +5,7 @@
 mod acts;
 mod adding;
 mod asking;
+mod cells;
 mod chunks;
 mod claiming;
 mod emptying;
@@ -15,6 +16,7 @@ mod insides;
 mod laws;
 mod numbers;
 mod pricing;
+mod rests;
 mod scratch;
 mod slots;
 mod stays;

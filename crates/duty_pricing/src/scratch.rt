@@ -10,6 +10,7 @@ ghost use Rattle.duty_pricing.specs.Holding.{HasGivenAll};
 use crate::asking::Asked;
 use crate::emptying::make_store;
 use crate::forcing::forced;
+use crate::insides::has_all;
 use crate::pricing::Found;
 use crate::slots::Slot;
 use crate::stores::LabelStore;
@@ -27,7 +28,7 @@ const ENTRIES: u32 = 62_000;
 /// The labels that the widest search for a good duty goes on with in a quarter of an hour.
 const WIDEST: u32 = 64;
 
-/// The room of a pricing.
+/// What the pricing of a driver works with: made once, and used for one driver after another. Contracts see its stored labels.
 #[derive(Drop)]
 pub struct Scratch {
     pub(crate) walks: Walks,
@@ -36,7 +37,8 @@ pub struct Scratch {
     pub(crate) labels: LabelStore,
 }
 
-/// A scratch, with room for the labels of 2,048 chunks. No other call of this crate takes memory.
+/// An empty scratch, with room for the labels of 2,048 chunks, or `Memory` where there is too little. No other call of this
+/// crate takes memory.
 pub fn make_scratch(alloc: Global) -> Result<Scratch, Memory>
     ensures { IfOk result IsEmpty }
 {
@@ -57,7 +59,13 @@ impl Scratch {
     }
 }
 
-/// The least value of a driver, at pairs and prices, with the duty in the scratch's steps. Its labels stay in the scratch.
+/// How wide a search for a good duty is: it is none where a forced order is out of reach, since there is no duty then.
+fn widest_for(forced: u128, reach: u128) -> u32 {
+    if has_all(forced, reach) { WIDEST } else { 0 }
+}
+
+/// The least value of a driver at pairs and prices, in cents: a duty's cost less the prices of its orders. A duty that has it is in
+/// the scratch's steps. The labels stay in the scratch, with the chunks that the seat drew for them, until they are given back.
 pub fn price_driver(
     case: &Case,
     driver: u32,
@@ -81,9 +89,11 @@ pub fn price_driver(
 {
     scratch.walks.fill(&case.week);
     scratch.outlook.fill(case, driver, pairs, prices);
+    let forced = forced(case, driver, pairs);
+    let widest = widest_for(forced, scratch.walks.reached(&case.week, 0, 0));
     let found = scratch
         .beam
-        .find(case, driver, pairs, prices, &scratch.outlook, WIDEST);
+        .find(case, driver, pairs, prices, &scratch.outlook, widest);
     let asked = Asked {
         case,
         driver,
@@ -94,12 +104,12 @@ pub fn price_driver(
         outlook: &scratch.outlook,
         found,
         steps: scratch.beam.steps(),
-        forced: forced(case, driver, pairs),
+        forced,
     };
     scratch.labels.price(&asked, seat)
 }
 
-/// Gives the chunks that a seat holds back to the round, and empties the scratch that has them.
+/// Gives the chunks that a seat holds back to the round, and empties the scratch that has them. Its steps stay.
 pub fn give_back(round: &Round<Slot>, seat: &mut Seat<Slot>, scratch: &mut Scratch)
     requires holds { HoldsScratch round.now seat.old scratch.old }
     requires room { HasRoom scratch.old }

@@ -5,6 +5,7 @@ use duty_plan::{Label, Step};
 /// chunk in the store and its place there.
 #[derive(Clone, Copy, PartialEq, Eq, Debug)]
 pub struct Slot {
+    /// Where the driver is after the steps, and what they come to.
     pub label: Label,
     /// The last step of the label's steps; of the first slot any step.
     pub step: Step,
@@ -12,8 +13,8 @@ pub struct Slot {
     pub parent: u32,
     /// One more than the number of the last earlier slot at the same minute; 0 where there is none.
     pub same_minute: u32,
-    /// One more than the number of the last earlier slot at the same place; 0 where there is none.
-    pub same_place: u32,
+    /// One more than the number of the last earlier slot at the same place in the same hour; 0 where there is none.
+    pub same_cell: u32,
 }
 
 /// The most bytes of a slot.

@@ -1,14 +1,15 @@
 // The stays that are tried before an act, and the steps with them.
-ghost use Rattle.std.specs.Prelude.{◌≡◌, ◌<◌, ◌≤◌, ◌*◌, ◌/◌, ℕ, true, false, length};
+ghost use Rattle.std.specs.Prelude.{◌≡◌, ◌<◌, ◌≤◌, ◌*◌, ℕ, true, false};
+ghost use Rattle.minute_line.specs.declared.lines.TheConstants.{WEEK_MINUTES};
 ghost use Rattle.minute_line.specs.Marks.{is_rest};
 ghost use Rattle.hours_rules.specs.declared.clocks.Stay.{Stay};
-ghost use Rattle.duty_plan.specs.Acts.{may_start};
 ghost use Rattle.duty_plan.specs.PartialDuties.{is_plain_length};
 ghost use Rattle.duty_pricing.specs.Asking.{IsAsked};
 ghost use Rattle.duty_pricing.specs.Listing.{plain_stay, rest_stay};
 ghost use Rattle.duty_pricing.specs.Searching.{GoesOn, HasTried, IsFull, IsOpen, IsSearch, MayExtend};
 
 use crate::asking::Asked;
+use crate::rests::{first_turn, rest_stay, turns};
 use crate::slots::Slot;
 use crate::stores::LabelStore;
 use crate::tried::Tried;
@@ -22,7 +23,7 @@ const LENGTHS: [u32; 5] = [0, 15, 30, 45, 180];
 
 /// The listed Plain stay of so many Off minutes before an act, from a week minute on.
 fn plain_stay(asked: &Asked, at: u32, act: Act, off: u32) -> Stay
-    requires at { at ≤ 10080 }
+    requires at { at ≤ WEEK_MINUTES }
     requires off { off ≤ 180 }
     ensures { result ≡ plain_stay asked.now.case.now.week at act off }
 {
@@ -37,35 +38,6 @@ fn plain_stay(asked: &Asked, at: u32, act: Act, off: u32) -> Stay
         ready,
         off,
         kind: Kind::Plain,
-    }
-}
-
-/// The listed rest of a kind from a week minute until another.
-fn rest_stay(at: u32, kind: Kind, start: u32) -> Stay
-    ensures { result ≡ rest_stay at kind start }
-{
-    Stay {
-        ready: 0,
-        off: start.saturating_sub(at),
-        kind,
-    }
-}
-
-/// How many turns of the grid have a minute at which an act may start.
-fn turns(asked: &Asked, act: Act) -> u32
-    requires asked { IsAsked asked.now }
-    ensures closed { (turn : ℕ) → result ≤ turn → turn * asked.now.case.now.week.grid < 10080 →
-        may_start asked.now.case.now.week act (turn * asked.now.case.now.week.grid) ≡ false }
-    ensures most { result ≤ 10080 / asked.now.case.now.week.grid }
-{
-    let grid = asked.case.week.grid;
-    let all = 10_080 / grid;
-    match act {
-        Act::Serve(order) => match asked.case.week.orders.get(order as usize) {
-            Some(order) => (order.closes / grid + 1).min(all),
-            None => all,
-        },
-        Act::Leg(_) | Act::Load => all,
     }
 }
 
@@ -99,8 +71,8 @@ impl LabelStore {
         true
     }
 
-    /// Whether there was room for the steps with a rest of a kind before an act. Where the outlook rules a rest out, it rules
-    /// out each longer one.
+    /// Whether there was room for the steps with a rest of a kind before an act, from the first that is long enough on. Where the
+    /// outlook rules a rest out, it rules out each longer one.
     fn try_rests(
         &mut self,
         asked: &Asked,
@@ -116,13 +88,14 @@ impl LabelStore {
         requires from { MayExtend asked.now self.old number from.now }
         requires rest { is_rest kind ≡ true }
         ensures on { GoesOn asked.now number from.now self.old self.new }
-        ensures tried { result ≡ true → (turn : ℕ) → from.now.clock.at ≤ turn * asked.now.case.now.week.grid → turn * asked.now.case.now.week.grid < 10080 →
+        ensures tried { result ≡ true → (turn : ℕ) → from.now.clock.at ≤ turn * asked.now.case.now.week.grid → turn * asked.now.case.now.week.grid < WEEK_MINUTES →
             HasTried asked.now self.new number (record { stay = rest_stay from.now.clock.at kind (turn * asked.now.case.now.week.grid); act = act }) }
         ensures open { result ≡ true → IsOpen asked.now seat.new self.new }
         ensures full { result ≡ false → IsFull asked.now seat.new self.new }
     {
         let grid = asked.case.week.grid;
-        for turn in from.clock.at / grid..turns(asked, act) {
+        let first = first_turn(asked, &from.clock, kind);
+        for turn in first..turns(asked, act) {
             let stay = rest_stay(from.clock.at, kind, turn * grid);
             match self.try_step(asked, seat, number, from, Step { stay, act }) {
                 Tried::Full => return false,

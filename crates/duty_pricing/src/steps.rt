@@ -1,16 +1,17 @@
 // The steps of the least duty, read from its slots.
 ghost use Rattle.std.specs.Prelude.{◌≡◌, ◌≤◌, ◌<◌, List, [], ◌∷◌, ◌++◌, length, reverse, IfOk, vec_capacity};
+ghost use Rattle.minute_line.specs.declared.lines.TheConstants.{WEEK_MINUTES};
 ghost use Rattle.duty_plan.specs.declared.duties.Step.{Step};
 ghost use Rattle.duty_pricing.specs.Slots.{HaveParents, entries_of, partial_at};
 
 use crate::chunks::Chunks;
 use duty_plan::Step;
-use minute_line::Memory;
+use minute_line::{Memory, WEEK_MINUTES};
 use std::alloc::Global;
 use std::marker::Model;
 
 /// The most steps of a duty: each act takes a minute at least.
-const MOST: usize = 10_080;
+const MOST: usize = WEEK_MINUTES as usize;
 
 /// The steps of a duty, in a list that takes no memory when it grows.
 #[derive(Drop)]
@@ -23,7 +24,7 @@ impl Model for Steps {
 
     ghost view = { λ s. s.steps.items };
 
-    ghost invariant = { λ s. 10080 ≤ vec_capacity s.steps };
+    ghost invariant = { λ s. WEEK_MINUTES ≤ vec_capacity s.steps };
 }
 
 impl Steps {
@@ -50,7 +51,7 @@ impl Steps {
     }
 
     fn push(&mut self, step: Step)
-        requires { length self.old < 10080 }
+        requires { length self.old < WEEK_MINUTES }
         ensures { self.new ≡ self.old ++ step ∷ [] }
     {
         self.steps.push_reserved(step);
@@ -58,7 +59,7 @@ impl Steps {
 
     /// Replaces the steps by others.
     pub(crate) fn copy(&mut self, steps: &[Step])
-        requires { length steps.now ≤ 10080 }
+        requires { length steps.now ≤ WEEK_MINUTES }
         ensures { self.new ≡ steps.now }
     {
         self.steps.clear();
@@ -78,7 +79,7 @@ impl Steps {
 pub(crate) fn trace(slots: &Chunks, number: u32, steps: &mut Steps)
     requires parents { HaveParents slots.now }
     requires number { number < length slots.now }
-    requires few { length (partial_at (entries_of slots.now) number) ≤ 10080 }
+    requires few { length (partial_at (entries_of slots.now) number) ≤ WEEK_MINUTES }
     ensures { steps.new ≡ reverse (partial_at (entries_of slots.now) number) }
 {
     steps.clear();

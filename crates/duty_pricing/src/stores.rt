@@ -1,16 +1,16 @@
 // What a pricing works with: the stored labels, the heads of their links, and the best duty that is known.
-ghost use Rattle.std.specs.Prelude.{◌≡◌, ◌<◌, ◌≤◌, ℕ, ◌∷◌, length, true, false, Some, slice_get, slice_index};
-ghost use Rattle.dominance.specs.Reaching.{DominatesWithin};
-ghost use Rattle.duty_pricing.specs.declared.slots.Slot.{Slot};
+ghost use Rattle.std.specs.Prelude.{◌≡◌, ◌<◌, ◌≤◌, ◌∷◌, length, true, false, slice_get, slice_index};
+ghost use Rattle.minute_line.specs.declared.lines.TheConstants.{WEEK_MINUTES};
+ghost use Rattle.duty_pricing.specs.Finding.{StoreHasRoom};
 ghost use Rattle.duty_pricing.specs.Holding.{IsFullSeat, IsOpenSeat};
 ghost use Rattle.duty_pricing.specs.Slots.{AddsSlot, AreChained};
 
+use crate::cells::cell;
 use crate::chunks::Chunks;
 use crate::claiming::keep;
 use crate::numbers::Numbers;
 use crate::slots::Slot;
 use crate::steps::Steps;
-use dominance::better_within;
 use duty_plan::{Label, Step};
 use label_arena::{Round, Seat};
 
@@ -22,8 +22,8 @@ pub struct LabelStore {
     pub(crate) numbers: Numbers,
     /// For each minute one more than the number of its last slot, or 0.
     pub(crate) minutes: Vec<u32>,
-    /// The same for each place.
-    pub(crate) places: Vec<u32>,
+    /// The same for each hour of a place.
+    pub(crate) cells: Vec<u32>,
     /// The least value that is known of a lawful duty inside.
     pub(crate) known: Option<i64>,
     /// The number of the slot that has it; none where it is the duty that was found beforehand.
@@ -59,54 +59,34 @@ impl LabelStore {
     ) -> bool
         requires few { round.now.chunks ≤ 2048 }
         requires open { IsOpenSeat round.now seat.old self.old.numbers (length self.old.slots) }
-        requires chained { AreChained self.old.minutes.items self.old.places.items self.old.slots }
-        requires minute { label.now.clock.at < length self.old.minutes.items }
-        requires place { label.now.place < length self.old.places.items }
-        ensures chained { AreChained self.new.minutes.items self.new.places.items self.new.slots }
+        requires chained { AreChained self.old.minutes.items self.old.cells.items self.old.slots }
+        requires room { StoreHasRoom self.old }
+        requires minute { label.now.clock.at ≤ WEEK_MINUTES }
+        requires place { label.now.place < 64 }
+        ensures chained { AreChained self.new.minutes.items self.new.cells.items self.new.slots }
         ensures stored { result ≡ true → AddsSlot label.now step parent self.old.slots self.new.slots }
         ensures unchanged { result ≡ false → self.new.slots ≡ self.old.slots }
         ensures open { result ≡ true → IsOpenSeat round.now seat.new self.new.numbers (length self.new.slots) }
         ensures full { result ≡ false → IsFullSeat round.now seat.new self.new.numbers (length self.new.slots) }
         ensures known { (self.new.known ≡ self.old.known) × (self.new.best ≡ self.old.best) }
         ensures size { (length self.new.minutes.items ≡ length self.old.minutes.items)
-            × (length self.new.places.items ≡ length self.old.places.items) }
+            × (length self.new.cells.items ≡ length self.old.cells.items) }
     {
         let minute = label.clock.at as usize;
-        let place = label.place as usize;
+        let cell = cell(label.place, label.clock.at / 60) as usize;
         let number = self.slots.len();
         let slot = Slot {
             label: *label,
             step,
             parent,
             same_minute: self.minutes[minute],
-            same_place: self.places[place],
+            same_cell: self.cells[cell],
         };
         if !keep(&mut self.slots, &mut self.numbers, round, seat, slot) {
             return false;
         }
         self.minutes[minute] = number + 1;
-        self.places[place] = number + 1;
+        self.cells[cell] = number + 1;
         true
-    }
-
-    /// Whether a slot of that number or a later one betters a label, for a driver with these forced orders, where orders out of
-    /// reach are ignored. Orders are given as bits.
-    pub(crate) fn bettered(&self, label: &Label, from: u32, forced: u128, reach: u128) -> bool
-        requires chained { AreChained self.now.minutes.items self.now.places.items self.now.slots }
-        requires place { label.now.place < length self.now.places.items }
-        ensures some { result ≡ true → (n : ℕ) × (slot : Slot) × (from ≤ n) × (slice_get self.now.slots n ≡ Some slot) × DominatesWithin slot.label label.now forced reach }
-        ensures none { result ≡ false → (n : ℕ) (slot : Slot) → from ≤ n → slice_get self.now.slots n ≡ Some slot → DominatesWithin slot.label label.now forced reach → ⊥ }
-    {
-        let mut link = self.places[label.place as usize];
-        while link > from {
-            let Some(slot) = self.slots.get(link - 1) else {
-                return false;
-            };
-            if better_within(&slot.label, label, forced, reach) {
-                return true;
-            }
-            link = slot.same_place;
-        }
-        false
     }
 }

@@ -1,15 +1,17 @@
 // A week of one driver, by hand: a leg is 60 minutes and 3,000 cents, the fee 2,000, a load 15 minutes; the order at P takes 30
-// minutes, opens at 60 and closes at 80, and its price is 9,000. A load and the leg to P take 75 minutes, so a second load would
-// be too long. The history is an open off run of 2,880 minutes.
+// minutes, and its price is 9,000. A load and the leg to P take 75 minutes, so the order can be served where its window closes
+// at 75 or later. The history is an open off run of 2,880 minutes.
 ghost use Rattle.std.specs.Prelude.{◌≡◌, ◌<◌, ◌≤◌, ◌∷◌, [], All, IfOk, length, map, slice_get};
 ghost use Rattle.std.specs.List.{IsDistinct};
 ghost use Rattle.week_book.specs.Weeks.{AreNames, IsLeg, IsDriver, IsOrder, same_ends};
 ghost use Rattle.duty_plan.specs.Duties.{IsCase, price_of, price_or_none};
 ghost use Rattle.duty_plan.specs.Values.{IsPairs, IsPrices};
+ghost use Rattle.label_arena.specs.Views.{IsNew};
+ghost use Rattle.duty_pricing.specs.Finding.{IsEmpty};
 
-use super::{Found, give_back, make_scratch, price_driver};
+use super::{Found, Scratch, Slot, give_back, make_scratch, price_driver};
 use duty_plan::{Act, Case, Pair, Pairs, Prices};
-use label_arena::Arena;
+use label_arena::{Arena, Round, Seat};
 use minute_line::{History, Line, Many, Memory, Monday, Name, read_monday};
 use std::alloc::Global;
 use week_book::{Driver, Leg, Order, Week};
@@ -60,8 +62,8 @@ fn drivers(alloc: Global) -> Result<Many<Driver>, Memory>
     Ok(drivers)
 }
 
-/// One order of 12,000 kg at P.
-fn orders(alloc: Global) -> Result<Many<Order>, Memory>
+/// One order of 12,000 kg at P, which may be served from the week's first minute until that one.
+fn orders(alloc: Global, closes: u8) -> Result<Many<Order>, Memory>
     ensures { IfOk result (λ orders. (length orders ≡ 1) × All (IsOrder 2) orders
         × AreNames (map (λ order. order.name) orders) × (price_or_none (slice_get orders 0) ≡ 9000)) }
 {
@@ -69,8 +71,8 @@ fn orders(alloc: Global) -> Result<Many<Order>, Memory>
     orders.push(Order {
         name: Many::from_slice(alloc, b"A")?,
         place: 1,
-        opens: 60,
-        closes: 80,
+        opens: 0,
+        closes: closes as u32,
         service: 30,
         kg: 12_000,
         price: 9000,
@@ -79,7 +81,7 @@ fn orders(alloc: Global) -> Result<Many<Order>, Memory>
 }
 
 /// The case: a history that ends in an open off run of two days.
-fn case(alloc: Global, monday: Monday) -> Result<Case, Memory>
+fn case(alloc: Global, monday: Monday, closes: u8) -> Result<Case, Memory>
     ensures { IfOk result (λ case. IsCase case × (length case.week.drivers ≡ 1) × (length case.week.orders ≡ 1)
         × (price_of case.week 0 ≡ 9000)) }
 {
@@ -103,7 +105,7 @@ fn case(alloc: Global, monday: Monday) -> Result<Case, Memory>
         places: places(alloc)?,
         legs: legs(alloc)?,
         drivers: drivers(alloc)?,
-        orders: orders(alloc)?,
+        orders: orders(alloc, closes)?,
     };
     Ok(Case { week, past })
 }
@@ -135,20 +137,59 @@ struct Desk {
     prices: Prices,
 }
 
-/// The driver's desk, where that is decided of the order.
-fn prepared(alloc: Global, monday: Monday, pair: Pair) -> Result<Desk, Memory>
+/// The driver's desk, where that is decided of the order, whose window closes at that minute.
+fn prepared(alloc: Global, monday: Monday, pair: Pair, closes: u8) -> Result<Desk, Memory>
     ensures { IfOk result (λ desk. IsCase desk.case × (0 < length desk.case.week.drivers) × IsPairs desk.case.week desk.pairs
         × IsPrices desk.case.week desk.prices) }
 {
     Ok(Desk {
-        case: case(alloc, monday)?,
+        case: case(alloc, monday, closes)?,
         pairs: pairs(alloc, pair)?,
         prices: prices(alloc)?,
     })
 }
 
-/// What the pricing of the driver found with so many chunks, how many labels it stored, and the acts of the duty.
-fn priced(alloc: Global, desk: &Desk, chunks: u32) -> Result<(Found, u32, Vec<Act>), Memory>
+/// What a pricing found, how many labels it stored, and the acts of its duty. The chunks are given back.
+fn priced(
+    alloc: Global,
+    desk: &Desk,
+    round: &Round<Slot>,
+    seat: &mut Seat<Slot>,
+    scratch: &mut Scratch,
+) -> Result<(Found, u32, Vec<Act>), Memory>
+    requires case { IsCase desk.now.case }
+    requires driver { 0 < length desk.now.case.week.drivers }
+    requires pairs { IsPairs desk.now.case.week desk.now.pairs }
+    requires prices { IsPrices desk.now.case.week desk.now.prices }
+    requires few { round.now.chunks ≤ 2048 }
+    requires seat { IsNew round.now.name seat.old }
+    requires empty { IsEmpty scratch.old }
+    ensures { IsEmpty scratch.new }
+{
+    let found = price_driver(
+        &desk.case,
+        0,
+        &desk.pairs,
+        &desk.prices,
+        round,
+        seat,
+        scratch,
+    );
+    let stored = scratch.labels.slots.len();
+    give_back(round, seat, scratch);
+    let mut acts = Vec::new(alloc);
+    for step in scratch.steps() {
+        acts.push(step.act)?;
+    }
+    Ok((found, stored, acts))
+}
+
+/// What two pricings found in turn, with one scratch and so many chunks.
+fn priced_twice(
+    alloc: Global,
+    desk: &Desk,
+    chunks: u32,
+) -> Result<((Found, u32, Vec<Act>), (Found, u32, Vec<Act>)), Memory>
     requires case { IsCase desk.now.case }
     requires driver { 0 < length desk.now.case.week.drivers }
     requires pairs { IsPairs desk.now.case.week desk.now.pairs }
@@ -156,55 +197,51 @@ fn priced(alloc: Global, desk: &Desk, chunks: u32) -> Result<(Found, u32, Vec<Ac
     requires few { chunks ≤ 2048 }
 {
     let mut scratch = make_scratch(alloc)?;
-    let (round, seats) = Arena::make(alloc, chunks)?.open_round(alloc, 1)?;
-    let Some(mut seat) = seats.into_vec().pop() else {
+    let (round, seats) = Arena::make(alloc, chunks)?.open_round(alloc, 2)?;
+    let mut seats = seats.into_vec();
+    let Some(mut first) = seats.pop() else {
         unreachable!()
     };
-    let found = price_driver(
-        &desk.case,
-        0,
-        &desk.pairs,
-        &desk.prices,
-        &round,
-        &mut seat,
-        &mut scratch,
-    );
-    let stored = scratch.labels.slots.len();
-    let mut acts = Vec::new(alloc);
-    for step in scratch.steps() {
-        acts.push(step.act)?;
-    }
-    give_back(&round, &mut seat, &mut scratch);
-    Ok((found, stored, acts))
+    let Some(mut second) = seats.pop() else {
+        unreachable!()
+    };
+    Ok((
+        priced(alloc, desk, &round, &mut first, &mut scratch)?,
+        priced(alloc, desk, &round, &mut second, &mut scratch)?,
+    ))
 }
 
-/// What is decided of the order, the chunks, the least value, and the acts of the duty that has it.
-const FOUND: [(Pair, u32, Found, &[Act]); 4] = [
-    (
-        Pair::Free,
-        64,
-        Found::Least(-1000),
-        &[Act::Load, Act::Leg(1), Act::Serve(0), Act::Leg(0)],
-    ),
-    (
-        Pair::Forced,
-        64,
-        Found::Least(-1000),
-        &[Act::Load, Act::Leg(1), Act::Serve(0), Act::Leg(0)],
-    ),
-    (Pair::Barred, 1, Found::Least(0), &[]),
-    (Pair::Free, 0, Found::Spent(0), &[]),
+/// The acts of the trip.
+const TRIP: &[Act] = &[Act::Load, Act::Leg(1), Act::Serve(0), Act::Leg(0)];
+
+/// What is decided of the order, when its window closes, the chunks, what is found, and the acts of the duty.
+const FOUND: [(Pair, u8, u32, Found, &[Act]); 6] = [
+    (Pair::Free, 80, 8, Found::Least(-1000), TRIP),
+    (Pair::Forced, 75, 8, Found::Least(-1000), TRIP),
+    (Pair::Forced, 59, 8, Found::NoDuty, &[]),
+    (Pair::Free, 74, 8, Found::Least(0), &[]),
+    (Pair::Barred, 80, 2, Found::Least(0), &[]),
+    (Pair::Free, 80, 0, Found::Spent(0), &[]),
 ];
 
-// By hand: the trip costs the fee of 2,000 and two legs of 3,000, and is paid 9,000; without the order no step pays.
+// By hand: the trip costs the fee of 2,000 and two legs of 3,000, and is paid 9,000, so it is worth -1,000. Without the order no
+// step pays, so the empty duty is the least, at 0; where the order is forced and out of reach, there is no duty.
 #[test]
 fn the_trip_is_worth_its_price(rt: HostRuntime) {
     let monday = read_monday("2026-03-02").expect(&rt, "a Monday");
-    for (pair, chunks, expected, acts) in FOUND {
-        let desk = prepared(rt.alloc(), monday, pair).expect(&rt, "memory");
-        let (found, stored, steps) = priced(rt.alloc(), &desk, chunks).expect(&rt, "memory");
-        assert!(rt; found == expected, "{pair:?}: {found:?}");
-        assert!(rt; steps.as_slice() == acts, "{pair:?}: {steps:?}");
+    for (pair, closes, chunks, expected, acts) in FOUND {
+        let desk = prepared(rt.alloc(), monday, pair, closes).expect(&rt, "memory");
+        let (first, second) = priced_twice(rt.alloc(), &desk, chunks).expect(&rt, "memory");
+        let (found, stored, steps) = first;
+        let (again, restored, retaken) = second;
+        assert!(rt; found == expected, "{pair:?}, {closes}: {found:?}");
+        assert!(rt; again == expected, "{pair:?}, {closes}: {again:?}");
+        assert!(rt; steps.as_slice() == acts, "{pair:?}, {closes}: {steps:?}");
+        assert!(rt;
+            retaken.as_slice() == acts,
+            "{pair:?}, {closes}: {retaken:?}"
+        );
+        assert!(rt; restored == stored, "{stored}, then {restored} labels");
         if pair == Pair::Barred {
             assert!(rt; stored == 1, "{stored} labels");
         }

@@ -1,5 +1,6 @@
 // The labels of a minute, one after another: each is settled by a later one, or extended.
-ghost use Rattle.std.specs.Prelude.{◌≡◌, ◌<◌, ◌≤◌, ℕ, true, false, Some, length, slice_get};
+ghost use Rattle.std.specs.Prelude.{◌≡◌, ◌+◌, ◌<◌, ◌≤◌, ℕ, true, false, Some, length, slice_get};
+ghost use Rattle.minute_line.specs.declared.lines.TheConstants.{WEEK_MINUTES};
 ghost use Rattle.duty_plan.specs.LabelLists.{Entry};
 ghost use Rattle.duty_plan.specs.Labels.{Dominates};
 ghost use Rattle.duty_pricing.specs.Asking.{IsAsked};
@@ -12,6 +13,7 @@ use crate::slots::Slot;
 use crate::stores::LabelStore;
 use duty_plan::Label;
 use label_arena::Seat;
+use minute_line::WEEK_MINUTES;
 
 impl LabelStore {
     /// Whether a later slot betters the label of a slot; the first is bettered by none.
@@ -54,7 +56,7 @@ impl LabelStore {
         requires asked { IsAsked asked.now }
         requires open { IsOpen asked.now seat.old self.old }
         requires search { IsSearch asked.now minute self.old }
-        requires minute { minute < 10081 }
+        requires minute { minute ≤ WEEK_MINUTES }
         ensures search { IsSearch asked.now minute self.new }
         ensures grows { GrowsTo minute self.old self.new }
         ensures done { result ≡ true → IsMinuteDone asked.now self.new minute }
@@ -79,12 +81,12 @@ impl LabelStore {
         requires asked { IsAsked asked.now }
         requires open { IsOpen asked.now seat.old self.old }
         requires search { IsSearch asked.now 0 self.old }
-        ensures search { IsSearch asked.now 10081 self.new }
+        ensures search { IsSearch asked.now (WEEK_MINUTES + 1) self.new }
         ensures done { result ≡ true → (n : ℕ) → IsDoneAt asked.now self.new n }
         ensures open { result ≡ true → IsOpen asked.now seat.new self.new }
         ensures full { result ≡ false → IsFull asked.now seat.new self.new }
     {
-        for minute in 0..10_081 {
+        for minute in 0..WEEK_MINUTES + 1 {
             if !self.visit_minute(asked, seat, minute) {
                 return false;
             }

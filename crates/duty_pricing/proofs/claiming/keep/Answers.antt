@@ -1,5 +1,5 @@
 -- A label more in the last chunk, or in a chunk that was claimed.
-use Rattle.std.proofs.Common.{◌≡◌, ◌+◌, ℕ, List, [], ◌∷◌, ◌++◌, length, ap, sym, subst, ◌∙◌, arith}
+use Rattle.std.proofs.Common.{◌≡◌, ℕ, List, [], ◌∷◌, ◌++◌, length, ap, sym, subst, ◌∙◌, arith}
 use Rattle.duty_pricing.specs.declared.slots.Slot.{Slot}
 use Rattle.duty_pricing.specs.Holding.{IsFullSeat, IsOpenSeat}
 use Rattle.duty_pricing.proofs.Elements.{length-push}

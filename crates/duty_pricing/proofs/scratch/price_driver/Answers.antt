@@ -12,5 +12,5 @@ price-requires-clause-asked c = record {
   outlook = c.fill-2.ensures;
   found = found-beforehand c.args.case.now c.args.driver c.args.pairs.now c.args.prices.now c.find-found.result _ _ c.find-found.ensures c.steps.ensures;
   few = c.requires.few;
-  is_forced = c.forced.ensures;
+  is_forced = c.forced-forced.ensures;
 }

@@ -1,6 +1,6 @@
 -- At most 2,048 chunks.
 use Rattle.std.proofs.Common.{arith}
-use Rattle.duty_pricing.proofs.Chunking.{joined-most}
+use Rattle.duty_pricing.proofs.Filling.{joined-most}
 use Rattle.duty_pricing.proofs.chunks.Chunks.len.Goals as goal
 
 pub returns-clause-most : goal.returns-clause-most

@@ -1,7 +1,7 @@
 -- Without the last chunk.
-use Rattle.std.proofs.Common.{◌≡◌, ◌+◌, ◌/◌, ◌<◌, List, length, ap, sym, ◌∙◌, subst, arith}
+use Rattle.std.proofs.Common.{List, length, ap, arith}
 use Rattle.duty_pricing.specs.declared.slots.Slot.{Slot}
-use Rattle.duty_pricing.proofs.Chunking.{popped}
+use Rattle.duty_pricing.proofs.Filling.{popped}
 use Rattle.duty_pricing.proofs.chunks.Chunks.pop.Goals as goal
 
 pub invariant_of-self-2 : goal.invariant_of-self-2

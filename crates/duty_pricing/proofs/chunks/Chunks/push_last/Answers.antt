@@ -1,9 +1,10 @@
 -- The last chunk has one slot more, or is full as all are.
-use Rattle.std.proofs.Common.{◌≡◌, ◌%◌, ◌+◌, ◌/◌, List, [], ◌∷◌, ◌++◌, length, ap, sym, ◌∙◌, subst, arith}
+use Rattle.std.proofs.Common.{◌%◌, ◌+◌, ◌/◌, List, [], ◌∷◌, ◌++◌, length, ap, sym, ◌∙◌, subst, arith}
 use Rattle.duty_pricing.specs.declared.slots.Slot.{Slot}
 use Rattle.duty_pricing.specs.Chunking.{AreFilled, joined}
 use Rattle.duty_pricing.proofs.Elements.{length-push}
-use Rattle.duty_pricing.proofs.Chunking.{full-row, joined-most, pushed-last}
+use Rattle.duty_pricing.proofs.Chunking.{full-row}
+use Rattle.duty_pricing.proofs.Filling.{joined-most, pushed-last}
 use Rattle.duty_pricing.proofs.chunks.Chunks.push_last.Goals as goal
 
 pub returns-then-not-has_pushed-clause-full : goal.returns-then-not-has_pushed-clause-full

@@ -1,9 +1,10 @@
 -- A new chunk follows full ones.
-use Rattle.std.proofs.Common.{◌≡◌, ◌%◌, ◌<◌, List, [], ◌∷◌, ◌++◌, length, ap, sym, ◌∙◌, subst, arith}
+use Rattle.std.proofs.Common.{◌%◌, ◌<◌, List, [], ◌∷◌, ◌++◌, length, ap, sym, ◌∙◌, subst, arith}
 use Rattle.duty_pricing.specs.declared.slots.Slot.{Slot}
 use Rattle.duty_pricing.specs.Chunking.{joined}
 use Rattle.duty_pricing.proofs.Elements.{length-push}
-use Rattle.duty_pricing.proofs.Chunking.{one-pushed, pushed-new, row-length}
+use Rattle.duty_pricing.proofs.Filling.{one-pushed, pushed-new}
+use Rattle.duty_pricing.proofs.Chunking.{row-length}
 use Rattle.duty_pricing.proofs.chunks.Chunks.push_new.Goals as goal
 
 pub push_reserved-requires : goal.push_reserved-requires

@@ -3,11 +3,20 @@ use Rattle.std.proofs.Common.{Option, sym, subst}
 use Rattle.std.specs.Prelude.{ℤ}
 use Rattle.duty_label.proofs.Values.{fits}
 use Rattle.duty_pricing.proofs.Fields.{small}
-use Rattle.duty_pricing.specs.Exhausting.{IsAsLow}
+use Rattle.duty_label.specs.Pruning.{Knows}
 use Rattle.duty_pricing.specs.Searching.{Learns, entry_at}
-use Rattle.duty_pricing.proofs.Searching.{search-stored, search-learned, added-grows, grows-same, learned-grows}
-use Rattle.duty_pricing.proofs.Trying.{added-place}
+use Rattle.duty_pricing.proofs.Learning.{search-stored, search-learned, added-grows, learned-grows}
+use Rattle.duty_pricing.proofs.Searching.{grows-same}
+use Rattle.duty_pricing.proofs.Trying.{added-minute, added-place}
 use Rattle.duty_pricing.proofs.stores.LabelStore.add.Goals as goal
+
+pub store-requires-clause-room : goal.store-requires-clause-room
+store-requires-clause-room c = record { minutes = c.requires.may.1.minutes_all; cells = c.requires.may.1.cells_all }
+
+pub store-requires-clause-minute : goal.store-requires-clause-minute
+store-requires-clause-minute c =
+    added-minute c.args.asked.now c.requires.may.0 c.args.self.now c.args.number c.args.step c.args.label.now c.requires.asked c.requires.may.1
+    c.requires.may.2
 
 pub store-requires-clause-place : goal.store-requires-clause-place
 store-requires-clause-place c =
@@ -41,7 +50,7 @@ returns-then-is_inside-clause-grows c = λ minute s m.
 pub returns-else-is_inside-clause-grows : goal.returns-else-is_inside-clause-grows
 returns-else-is_inside-clause-grows c = λ minute s m.
     added-grows minute c.args.self.now c.store.new.self c.args.number c.args.step c.args.label.now (c.store.ensures.stored c.if-not-store.false) m.later
-    (λ v l. subst (λ (o : Option ℤ). IsAsLow o v) (sym c.store.ensures.known.0) l)
+    (λ v l. subst (λ (o : Option ℤ). Knows o v) (sym c.store.ensures.known.0) l)
 
 pub returns-then-not-store-clause-grows : goal.returns-then-not-store-clause-grows
 returns-then-not-store-clause-grows c = λ minute s m.

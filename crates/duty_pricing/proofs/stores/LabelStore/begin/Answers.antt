@@ -9,12 +9,12 @@ use Rattle.duty_pricing.proofs.stores.LabelStore.begin.Goals as goal
 
 pub store-requires-clause-minute : goal.store-requires-clause-minute
 store-requires-clause-minute c =
-    let is = c.first-label.ensures.label c.args.asked.now.prices.now in omega (arith, is.clock.at, c.requires.empty.room.minutes)
+    let is = c.first-label.ensures.label c.args.asked.now.prices.now in omega (arith, is.clock.at)
 
 pub store-requires-clause-place : goal.store-requires-clause-place
 store-requires-clause-place c =
     let is = c.first-label.ensures.label c.args.asked.now.prices.now in
-    let some = c.requires.asked.is_case.week.places in omega (arith, is.place, c.requires.empty.room.places)
+    let some = c.requires.asked.is_case.week.places in omega (arith, is.place)
 
 pub returns-then-is_inside-clause-search : goal.returns-then-is_inside-clause-search
 returns-then-is_inside-clause-search c = λ _.

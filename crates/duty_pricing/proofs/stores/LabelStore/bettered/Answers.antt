@@ -1,29 +1,38 @@
--- A walk down the place's slots.
-use Rattle.std.proofs.Common.{◌-◌, ◌<◌, ◌≤◌, refl, sym, arith}
-use Rattle.std.proofs.lemmas.List.{get_or_read}
+-- A slot that betters the label ends no later than it, and no earlier than its work day begins.
+use Rattle.std.proofs.Common.{◌≡◌, ◌⊎◌, inl, inr, ◌+◌, ◌/◌, ◌<◌, suc, ◌≤◌, ℕ, Some, slice_get, sym, ap, ◌∙◌, arith}
+use Rattle.std.proofs.lemmas.Int.{ints}
 use Rattle.dominance.specs.Reaching.{DominatesWithin}
-use Rattle.duty_pricing.specs.Slots.{place_of}
-use Rattle.duty_pricing.proofs.Links.{HasWalked, walk-begins, walk-down}
+use Rattle.duty_pricing.specs.declared.slots.Slot.{Slot}
+use Rattle.duty_pricing.specs.Slots.{cell_at, cell_of}
+use Rattle.duty_pricing.proofs.Links.{lt-or}
 use Rattle.duty_pricing.proofs.stores.LabelStore.bettered.Goals as goal
 
-pub loop-link-init : goal.loop-link-init
-loop-link-init c =
-    walk-begins place_of (λ slot. slot.same_place) c.args.self.now.places.items c.args.self.now.slots c.args.label.now.place c.index-link.result.now
-    _ c.requires.chained.by_place c.requires.place
-    (get_or_read c.args.self.now.places.items _ _ c.requires.place c.index-link.ensures 0)
+pub loop-hour-init : goal.loop-hour-init
+loop-hour-init c = λ n slot l h early b.
+    let day = c.requires.days n slot h in
+    let sooner = b.clock.day_from in
+    let late = c.first_hour-hour.ensures slot.label.clock.at (omega (arith, ints, day, sooner)) in
+    omega (arith, early, late)
 
--- one slot further down
-walked : (c : goal.Else-better_within) → HasWalked place_of c.args.self.now.slots c.args.label.now.place c.in-Some.slot.now.same_place
-    (λ n slot. c.args.from ≤ n → DominatesWithin slot.label c.args.label.now c.args.forced c.args.reach → ⊥) × (c.in-Some.slot.now.same_place < c.loop-link.link)
-walked c =
-    let worse : c.args.from ≤ c.loop-link.link - 1 → DominatesWithin c.in-Some.slot.now.label c.args.label.now c.args.forced c.args.reach → ⊥ =
-    (λ from better. let h = c.better_within.ensures.1 better in let f = c.if-better_within.false in cc) in
-    walk-down place_of (λ slot. slot.same_place) c.args.self.now.places.items c.args.self.now.slots c.args.label.now.place c.loop-link.link
-    c.in-Some.slot.now.same_place c.in-Some.slot.now (λ n slot. c.args.from ≤ n → DominatesWithin slot.label c.args.label.now c.args.forced c.args.reach → ⊥)
-    c.requires.chained.by_place c.loop-link.invariant (omega arith) (sym c.in-Some.ensures) worse refl
+pub cell-requires-clause-hour : goal.cell-requires-clause-hour
+cell-requires-clause-hour c = let low : c.args.label.now.clock.at ≤ 10080 = c.requires.minute in let test = c.loop-hour-test.true in omega arith
 
-pub loop-link-smaller : goal.loop-link-smaller
-loop-link-smaller c = (walked c).1
+pub loop-hour-preserved : goal.loop-hour-preserved
+loop-hour-preserved c = λ n slot l h early b. by_hour n slot l h early b (lt-or (slot.label.clock.at / 60) c.loop-hour.hour)
+  where
+    by_hour : (n : ℕ) (slot : Slot) → c.args.from ≤ n → slice_get c.args.self.now.slots n ≡ Some slot →
+        slot.label.clock.at / 60 < c.loop-hour.hour + 1 → DominatesWithin slot.label c.args.label.now c.args.forced c.args.reach →
+        (slot.label.clock.at / 60 < c.loop-hour.hour) ⊎ ((slot.label.clock.at / 60 ≡ c.loop-hour.hour)
+        ⊎ (suc c.loop-hour.hour ≤ slot.label.clock.at / 60)) → ⊥
+    by_hour n slot l h early b (inl before) = c.loop-hour.invariant n slot l h before b
+    by_hour n slot l h early b (inr (inl at)) =
+        let same : cell_of slot ≡ cell_at c.args.label.now.place c.loop-hour.hour =
+        ap (λ (p : ℕ). cell_at p (slot.label.clock.at / 60)) b.place ∙ ap (λ (t : ℕ). cell_at c.args.label.now.place t) at in
+        c.bettered_in.ensures.none c.if-bettered_in.false n slot l h (same ∙ sym c.cell.ensures.is) b
+    by_hour n slot l h early b (inr (inr past)) = omega (arith, early, past)
 
-pub loop-link-preserved : goal.loop-link-preserved
-loop-link-preserved c = (walked c).0
+pub returns-clause-none : goal.returns-clause-none
+returns-clause-none c = λ _ n slot l h b.
+    let sooner = b.clock.at in
+    let end = c.loop-hour-test.false in
+    c.loop-hour.invariant n slot l h (omega (arith, sooner, end)) b

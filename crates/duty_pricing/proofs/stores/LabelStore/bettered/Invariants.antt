@@ -1,13 +1,9 @@
--- The slots of the place past the link do not better the label, but for those before `from`.
-use Rattle.std.proofs.Common.{◌≤◌}
+-- No slot that ends in an hour before betters the label, but for those before `from`.
+use Rattle.std.proofs.Common.{◌≡◌, ◌/◌, ◌<◌, ◌≤◌, ℕ, Some, slice_get}
 use Rattle.dominance.specs.Reaching.{DominatesWithin}
-use Rattle.duty_pricing.specs.Slots.{place_of}
-use Rattle.duty_pricing.proofs.Links.{HasWalked}
+use Rattle.duty_pricing.specs.declared.slots.Slot.{Slot}
 use Rattle.duty_pricing.proofs.stores.LabelStore.bettered.Given as goal
 
-abbrev pub invariant-loop-link : goal.invariant-loop-link
-invariant-loop-link l =
-    HasWalked place_of l.self.slots l.label.place l.link (λ n slot. l.from ≤ n → DominatesWithin slot.label l.label l.forced l.reach → ⊥)
-
-abbrev pub decreases-loop-link : goal.decreases-loop-link
-decreases-loop-link l = l.link
+abbrev pub invariant-loop-hour : goal.invariant-loop-hour
+invariant-loop-hour l = (n : ℕ) (slot : Slot) → l.from ≤ n → slice_get l.self.slots n ≡ Some slot → slot.label.clock.at / 60 < l.hour →
+    DominatesWithin slot.label l.label l.forced l.reach → ⊥

@@ -9,7 +9,7 @@ invariant-giving l = record {
   held : l.seat.held ≡ reverse l.self.numbers;
   needed : length l.self.numbers ≡ (length l.self.slots + 1023) / 1024;
   minutes : l.self.minutes ≡ l.fn.self.minutes;
-  places : l.self.places ≡ l.fn.self.places;
+  cells : l.self.cells ≡ l.fn.self.cells;
 }
 
 abbrev pub decreases-giving : goal.decreases-giving

@@ -1,10 +1,10 @@
 -- Each answer rests on the stored labels.
-use Rattle.std.proofs.Common.{◌≡◌, inl, inr, ap, sym, ◌∙◌, arith, rules, w64, of_z, to_z}
+use Rattle.std.proofs.Common.{◌≡◌, inl, inr, ap, arith, rules, w64, of_z, to_z}
 use Rattle.std.proofs.lemmas.Int.{ints}
 use mir.Val.{SFits}
 use Rattle.duty_pricing.specs.Slots.{entries_of}
 use Rattle.duty_pricing.proofs.Holding.{seat-of, spent-seat}
-use Rattle.duty_pricing.proofs.Beginning.{all-parents, found-few, least-found, no-duty, best-number, best-few, least-steps, same-least}
+use Rattle.duty_pricing.proofs.Answering.{all-parents, best-few, best-number, found-few, least-found, least-steps, no-duty, same-least}
 use Rattle.duty_pricing.proofs.stores.LabelStore.price.Goals as goal
 
 pub returns-then-not-begin-clause-found : goal.returns-then-not-begin-clause-found

@@ -2,7 +2,6 @@
 use Rattle.std.proofs.Common.{◌*◌}
 use Rattle.duty_pricing.proofs.Going.{goes-further, tried-stays, all-stays}
 use Rattle.duty_pricing.proofs.Ruling.{away-tried, ends-as}
-use Rattle.duty_pricing.specs.Searching.{GoesOn}
 use Rattle.duty_pricing.proofs.stores.LabelStore.try_act.Goals as goal
 
 pub returns-then-not-try_rests-clause-on : goal.returns-then-not-try_rests-clause-on

@@ -1,18 +1,21 @@
--- The rests until the turns before the minute are none; past one that is ruled out, or past the last start, none need be tried.
-use Rattle.std.proofs.Common.{◌≡◌, ◌⊎◌, inl, inr, ◌<◌, ◌≤◌, ◌*◌, ℕ, below_more, sym, subst, arith}
+-- The rests until the turns before the first are too short; past one that is ruled out, or past the last start, none need be tried.
+use Rattle.std.proofs.Common.{◌⊎◌, inl, inr, ◌<◌, ◌≤◌, ◌*◌, ℕ, below_more, sym, subst, arith}
 use Rattle.std.proofs.lemmas.Bool.{cases_lt}
 use Rattle.hours_rules.specs.declared.clocks.Stay.{Stay}
 use Rattle.duty_pricing.specs.Listing.{rest_stay}
 use Rattle.duty_pricing.specs.Searching.{HasTried, IsListedAt, RulesOut}
-use Rattle.duty_pricing.proofs.Going.{goes-itself, goes-further, tried-stays, turn-low, turn-early}
+use Rattle.duty_pricing.proofs.Going.{goes-itself, goes-further, tried-stays}
 use Rattle.duty_pricing.proofs.Ruling.{closed-tried, ends-as, longer-ruled, rest-listed, turn-fits, turns-order}
+use Rattle.duty_pricing.proofs.Resting.{short-tried}
 use Rattle.duty_pricing.proofs.stores.LabelStore.try_rests.Goals as goal
 
 pub loop-turn-init : goal.loop-turn-init
 loop-turn-init c = record {
   open_still = c.requires.open;
   on = goes-itself c.args.asked.now c.args.number c.args.from.now c.args.self.now c.requires.search c.requires.from;
-  tried = λ turn l h. absurd (turn-early turn c.args.from.now.clock.at c.args.asked.now.case.now.week.grid c.requires.asked.is_case.week.grid l h);
+  tried = λ turn l h.
+      short-tried c.args.asked.now c.args.self.now c.args.number c.args.from.now c.args.kind (turn * c.args.asked.now.case.now.week.grid) c.args.act
+      c.requires.asked c.requires.search c.requires.from c.requires.rest (c.first_turn-first.ensures turn l h);
 }
 
 pub try_step-requires-clause-listed : goal.try_step-requires-clause-listed

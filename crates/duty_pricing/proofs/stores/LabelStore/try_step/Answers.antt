@@ -1,10 +1,11 @@
 -- A step is no child, ruled out, hopeless, bettered, or stored.
-use Rattle.std.proofs.Common.{◌≡◌, ℕ, inr, sym, subst, ◌∷◌, refl, arith}
+use Rattle.std.proofs.Common.{ℕ, inr, sym, subst, ◌∷◌, refl, arith}
 use Rattle.duty_label.specs.Children.{HasLabel}
 use Rattle.dominance.specs.Reaching.{DominatesWithin}
 use Rattle.duty_pricing.specs.Searching.{MayAdd}
 use Rattle.duty_pricing.proofs.Searching.{grows-same, may-still, may-same}
-use Rattle.duty_pricing.proofs.Trying.{from-has, from-some, not-barred, tried-none, tried-spared, tried-bettered, place-fits, ruled-out, may-add, tried-added}
+use Rattle.duty_pricing.proofs.Trying.{from-has, from-some, tried-none, tried-spared, tried-bettered, minute-fits, place-fits, ruled-out, may-add, search-days, tried-added}
+use Rattle.duty_pricing.proofs.Following.{not-barred}
 use Rattle.duty_pricing.proofs.stores.LabelStore.try_step.Goals as goal
 
 pub child-requires-clause-label : goal.child-requires-clause-label
@@ -58,6 +59,18 @@ bettered-requires-clause-place c =
     let has : HasLabel c.args.asked.now.case.now c.args.asked.now.driver c.args.asked.now.prices.now (c.args.step ∷ partial) c.in-Ok.label =
     record { lawful = both.1; label_of = c.in-Ok.ensures.label partial h } in
     place-fits c.args.asked.now c.args.self.now c.args.number c.args.from.now c.args.step c.requires.asked c.requires.search c.requires.from c.in-Ok.label has
+
+pub bettered-requires-clause-minute : goal.bettered-requires-clause-minute
+bettered-requires-clause-minute c =
+    let partial = c.requires.from.entry.partial in
+    let h = from-has c.args.asked.now c.args.self.now c.args.number c.args.from.now c.args.step c.requires.asked c.requires.search c.requires.from in
+    let both = (c.in-Ok.ensures.lawful partial h).0 refl in
+    let has : HasLabel c.args.asked.now.case.now c.args.asked.now.driver c.args.asked.now.prices.now (c.args.step ∷ partial) c.in-Ok.label =
+    record { lawful = both.1; label_of = c.in-Ok.ensures.label partial h } in
+    minute-fits c.args.asked.now c.args.self.now c.args.number c.args.from.now c.args.step c.requires.asked c.requires.search c.requires.from c.in-Ok.label has
+
+pub bettered-requires-clause-days : goal.bettered-requires-clause-days
+bettered-requires-clause-days c = search-days c.args.asked.now c.args.from.now.clock.at c.args.self.now c.requires.search
 
 pub returns-then-bettered-clause-grows : goal.returns-then-bettered-clause-grows
 returns-then-bettered-clause-grows c = grows-same c.args.from.now.clock.at c.args.self.now c.args.self.now refl refl

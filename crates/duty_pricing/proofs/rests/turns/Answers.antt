@@ -4,7 +4,7 @@ use Rattle.duty_plan.specs.declared.duties.Act.{Act}
 use Rattle.duty_plan.specs.Acts.{may_start}
 use Rattle.duty_pricing.proofs.Going.{turn-low}
 use Rattle.duty_pricing.proofs.Ruling.{serve-closed}
-use Rattle.duty_pricing.proofs.stays.turns.Goals as goal
+use Rattle.duty_pricing.proofs.rests.turns.Goals as goal
 
 pub returns-in-Some-clause-closed : goal.returns-in-Some-clause-closed
 returns-in-Some-clause-closed c = λ turn l h.

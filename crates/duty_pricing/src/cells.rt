@@ -1,0 +1,76 @@
+// The stored labels of a place by the hours in which they end. One that betters a label ends no later, and within its work day.
+ghost use Rattle.std.specs.Prelude.{◌≡◌, ◌<◌, ◌≤◌, ◌≤ℤ◌, ◌/◌, ℕ, pos, length, true, false, Some, slice_get};
+ghost use Rattle.minute_line.specs.declared.lines.TheConstants.{WEEK_MINUTES};
+ghost use Rattle.dominance.specs.Reaching.{DominatesWithin};
+ghost use Rattle.duty_pricing.specs.declared.slots.Slot.{Slot};
+ghost use Rattle.duty_pricing.specs.Slots.{AreChained, HaveDays, cell_at, cell_of};
+
+use crate::stores::LabelStore;
+use dominance::better_within;
+use duty_plan::Label;
+
+/// The hours of the minutes of a week, from 0 to 168.
+const HOURS: u32 = 169;
+
+/// The cell of an hour of a place.
+pub(crate) fn cell(place: u32, hour: u32) -> u32
+    requires place { place < 64 }
+    requires hour { hour < 169 }
+    ensures is { result ≡ cell_at place hour }
+    ensures few { result < 10816 }
+{
+    place * HOURS + hour
+}
+
+/// The hour in which a label's work day began, or the week's first.
+fn first_hour(label: &Label) -> u32
+    ensures { (minute : ℕ) → label.now.clock.day_from ≤ℤ pos minute → result ≤ minute / 60 }
+{
+    if label.clock.day_from < 0 {
+        return 0;
+    }
+    label.clock.day_from.unsigned_abs() / 60
+}
+
+impl LabelStore {
+    /// Whether a slot of that number or a later one in a cell betters a label, for a driver with these forced orders, where
+    /// orders out of reach are ignored. Orders are given as bits.
+    fn bettered_in(&self, cell: u32, label: &Label, from: u32, forced: u128, reach: u128) -> bool
+        requires chained { AreChained self.now.minutes.items self.now.cells.items self.now.slots }
+        requires cell { cell < length self.now.cells.items }
+        ensures some { result ≡ true → (n : ℕ) × (slot : Slot) × (from ≤ n) × (slice_get self.now.slots n ≡ Some slot) × DominatesWithin slot.label label.now forced reach }
+        ensures none { result ≡ false → (n : ℕ) (slot : Slot) → from ≤ n → slice_get self.now.slots n ≡ Some slot → cell_of slot ≡ cell →
+            DominatesWithin slot.label label.now forced reach → ⊥ }
+    {
+        let mut link = self.cells[cell as usize];
+        while link > from {
+            let Some(slot) = self.slots.get(link - 1) else {
+                return false;
+            };
+            if better_within(&slot.label, label, forced, reach) {
+                return true;
+            }
+            link = slot.same_cell;
+        }
+        false
+    }
+
+    /// Whether a slot of that number or a later one betters a label, for a driver with these forced orders, where orders out of
+    /// reach are ignored. Orders are given as bits.
+    pub(crate) fn bettered(&self, label: &Label, from: u32, forced: u128, reach: u128) -> bool
+        requires chained { AreChained self.now.minutes.items self.now.cells.items self.now.slots }
+        requires days { HaveDays self.now.slots }
+        requires cells { length self.now.cells.items ≡ 10816 }
+        requires minute { label.now.clock.at ≤ WEEK_MINUTES }
+        requires place { label.now.place < 64 }
+        ensures some { result ≡ true → (n : ℕ) × (slot : Slot) × (from ≤ n) × (slice_get self.now.slots n ≡ Some slot) × DominatesWithin slot.label label.now forced reach }
+        ensures none { result ≡ false → (n : ℕ) (slot : Slot) → from ≤ n → slice_get self.now.slots n ≡ Some slot → DominatesWithin slot.label label.now forced reach → ⊥ }
+    {
+        for hour in first_hour(label)..label.clock.at / 60 + 1 {
+            if self.bettered_in(cell(label.place, hour), label, from, forced, reach) {
+                return true;
+            }
+        }
+        false
+    }
+}
