@@ -1,2 +1,4 @@
-pub mod PlanSums
-pub mod ReportLines
+pub mod WalkingSteps
+pub mod GrowingText
+pub mod FindingServices
+pub mod OneReport

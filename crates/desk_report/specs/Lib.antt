@@ -1,2 +1,5 @@
-pub mod Plans
+pub mod Lines
+pub mod Steps
+pub mod Services
 pub mod Reports
+pub mod Laws

@@ -1,6 +1,13 @@
-//! The reports of planned weeks, as text. Money is in cents.
+//! The reports of planned weeks, as text. Money is in cents, and a stamp is in UTC.
 #![tactic(auto)]
 
+mod drivers;
+mod laws;
+mod lines;
+mod orders;
 mod reports;
+mod services;
+mod steps;
 
-pub use reports::{each_plan_costs_the_bound, report_out};
+pub use laws::reports_tell_findings;
+pub use reports::report;

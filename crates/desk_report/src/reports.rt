@@ -1,89 +1,52 @@
-// The report of a week without drivers, all of whose orders are subcontracted.
-ghost use Rattle.std.specs.Prelude.{length, ◌≡◌, ◌++◌, OnOk, IfOk, map, sum_by};
-ghost use Rattle.std.specs.Fmt.{decimal};
-ghost use Rattle.std.specs.List.{flat_map};
-ghost use Rattle.week_book.specs.Weeks.{IsWeek};
-ghost use Rattle.duty_plan.specs.declared.plans.Plan.{Plan};
-ghost use Rattle.duty_plan.specs.Duties.{IsLawfulPlan, cost_of_plan};
-ghost use Rattle.desk_report.specs.Plans.{undriven_case, all_subcontracted};
-ghost use Rattle.desk_report.specs.Reports.{line_of, out_line, IsReportOut};
+// The report of an outcome.
+ghost use Rattle.std.specs.Prelude.{◌≡◌, ◌++◌, ◌∷◌, [], OnOk, IfOk, length, codes};
+ghost use Rattle.duty_plan.specs.Duties.{IsCase, IsLawfulPlan};
+ghost use Rattle.desk_report.specs.Lines.{with_lines};
+ghost use Rattle.desk_report.specs.Reports.{state_word, outcome_lines, IsReportOf};
 
-use minute_line::{Bytes, Many, Memory, monday_text, push_decimal};
+use crate::drivers::push_drivers;
+use crate::lines::{push_line, push_number_line};
+use crate::orders::push_orders;
+use crate::steps::Days;
+use duty_plan::{Case, Outcome, State};
+use minute_line::{Bytes, Many, Memory, week_days};
 use std::alloc::Global;
-use week_book::{Order, Week};
 
-/// What subcontracting every order costs, in cents.
-fn cost_of(week: &Week) -> u64
-    requires { IsWeek week.now }
-    ensures { result ≡ sum_by (λ order. order.price) week.now.orders }
+/// Adds the line of a state.
+fn push_state(text: &mut Bytes, state: State) -> Result<(), Memory>
+    ensures { OnOk result (text.new ≡ with_lines text.old ((codes "state" ∷ state_word state ∷ []) ∷ [])) }
 {
-    let mut cost = 0;
-    for order in week.orders.as_slice() {
-        cost += order.price;
+    match state {
+        State::Proved => push_line(text, b"state", b"proved"),
+        State::OpenLabels => push_line(text, b"state", b"labels"),
+        State::OpenNodes => push_line(text, b"state", b"nodes"),
     }
-    cost
 }
 
-/// Adds a line of a word and what follows it.
-fn push_line(text: &mut Bytes, word: &[u8], value: &[u8]) -> Result<(), Memory>
-    ensures { OnOk result (text.new ≡ text.old ++ line_of (word.now ++ value.now)) }
+/// Adds the lines of the week and of what a search found.
+fn push_outcome(text: &mut Bytes, monday: &[u8], outcome: &Outcome) -> Result<(), Memory>
+    ensures { OnOk result (text.new ≡ with_lines text.old (outcome_lines monday.now outcome.now)) }
 {
-    text.extend_from_slice(word)?;
-    text.extend_from_slice(value)?;
-    text.push(b'\n')
+    push_line(text, b"week", monday)?;
+    push_number_line(text, b"cost", outcome.cost)?;
+    push_number_line(text, b"bound", outcome.bound)?;
+    push_state(text, outcome.state)?;
+    push_number_line(text, b"nodes", outcome.tree.len() as u64)
 }
 
-/// Adds a line of a word and a number.
-fn push_number_line(text: &mut Bytes, word: &[u8], n: u64) -> Result<(), Memory>
-    ensures { OnOk result (text.new ≡ text.old ++ line_of (word.now ++ decimal n)) }
+/// The report of an outcome whose plan is lawful: the week, what the search found, a block for each driver, and a line for
+/// each order. A block has the cost of the duty, the history that it follows, and the duty's lines, each at the stamp of its
+/// first minute. Its time grows with the length of the text, and with the number of orders times that of the steps.
+pub fn report(alloc: Global, case: &Case, outcome: &Outcome) -> Result<Bytes, Memory>
+    requires case { IsCase case.now }
+    requires lawful { IsLawfulPlan case.now outcome.now.plan }
+    ensures { IfOk result (IsReportOf case.now outcome.now) }
 {
-    text.extend_from_slice(word)?;
-    push_decimal(text, n)?;
-    text.push(b'\n')
-}
-
-/// Adds the line of a subcontracted order.
-fn push_out_line(text: &mut Bytes, order: &Order) -> Result<(), Memory>
-    ensures { OnOk result (text.new ≡ text.old ++ line_of (out_line order.now)) }
-{
-    text.extend_from_slice(b"order ")?;
-    text.extend_from_slice(order.name.as_slice())?;
-    push_number_line(text, b" out ", order.price)
-}
-
-/// Adds the lines of the subcontracted orders.
-fn push_out_lines(text: &mut Bytes, orders: &[Order]) -> Result<(), Memory>
-    ensures { OnOk result (text.new ≡ text.old ++ flat_map line_of (map out_line orders.now)) }
-{
-    for order in orders {
-        push_out_line(text, order)?;
-    }
-    Ok(())
-}
-
-/// The report of a checked week without drivers. Each order is subcontracted, so cost and bound are the sum of the
-/// prices. Its time grows with the length of the text.
-pub fn report_out(alloc: Global, week: &Week) -> Result<Bytes, Memory>
-    requires checked { IsWeek week.now }
-    requires undriven { length week.now.drivers ≡ 0 }
-    ensures { IfOk result (IsReportOut week.now) }
-{
-    let cost = cost_of(week);
+    let days: Days = week_days(case.week.monday);
+    let duties = outcome.plan.duties.as_slice();
     let mut text = Many::new(alloc);
-    push_line(&mut text, b"week ", &monday_text(week.monday))?;
-    push_number_line(&mut text, b"cost ", cost)?;
-    push_number_line(&mut text, b"bound ", cost)?;
-    push_line(&mut text, b"state ", b"proved")?;
-    push_line(&mut text, b"nodes ", b"1")?;
-    push_out_lines(&mut text, week.orders.as_slice())?;
+    push_outcome(&mut text, &days[0], outcome)?;
+    push_drivers(alloc, &mut text, &days, case, duties)?;
+    push_orders(&mut text, &days, &case.week, duties)?;
     Ok(text)
 }
-
-/// A law, which does nothing: each lawful plan of a week without drivers costs the bound that its report prints, and the
-/// plan that it prints, which subcontracts each order, is a lawful one.
-pub fn each_plan_costs_the_bound(week: &Week)
-    requires { length week.now.drivers ≡ 0 }
-    ensures bound { (plan : Plan) → IsLawfulPlan (undriven_case week.now) plan
-        → cost_of_plan (undriven_case week.now) plan ≡ cost_of_plan (undriven_case week.now) (all_subcontracted week.now) }
-    ensures printed { IsLawfulPlan (undriven_case week.now) (all_subcontracted week.now) }
-{}
