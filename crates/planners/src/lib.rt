@@ -1,0 +1,6 @@
+//! Who plans a week: a search over rounds of prices.
+#![tactic(auto)]
+
+mod turns;
+
+pub use turns::plan_in_turns;
