@@ -13,7 +13,7 @@ use Rattle.driver_history.specs.declared.errors.HistoryError.TheVariants as past
 use Rattle.driver_history.specs.declared.errors.LineError.{LineError}
 use Rattle.driver_history.specs.declared.errors.LineError.TheVariants as line
 use Rattle.desk_core.specs.declared.refusals.Refusal.{Refusal}
-use Rattle.desk_core.specs.declared.refusals.Refusal.TheVariants.{Long, Csv, Week, Past, Line, NoHistory, Drivers}
+use Rattle.desk_core.specs.declared.refusals.Refusal.TheVariants.{Long, Csv, Week, Past, Line, NoHistory}
 
 -- a line's words, each as its bytes
 abbrev pub Words : Type 0
@@ -68,7 +68,6 @@ refusal_words (Week error) = week_words error
 refusal_words (Past name error) = codes "past" ∷ name ∷ past_words error
 refusal_words (Line name error) = codes "line" ∷ name ∷ line_words error
 refusal_words (NoHistory name) = codes "history" ∷ name ∷ []
-refusal_words Drivers = codes "drivers" ∷ []
 
 -- the line of a refusal
 abbrev pub refusal_text : Refusal → List ℕ

@@ -1,5 +1,5 @@
 -- The week of a week text, with its drivers' histories.
-use Rattle.std.specs.Prelude.{ℕ, Option, Some, None, Result, Ok, Err, List, [], ◌∷◌, ◌++◌, ◌==◌, if◌then◌else◌, length}
+use Rattle.std.specs.Prelude.{ℕ, Option, Some, None, Result, Ok, Err, List, [], ◌∷◌, ◌++◌}
 use Rattle.std.specs.Option.{option_or}
 use Rattle.minute_line.specs.Histories.{Fields}
 use Rattle.week_book.specs.declared.rows.Row.{Row}
@@ -55,11 +55,3 @@ case_said text = do
   week ← refuse because.Week (week_of rows)
   past ← histories_said rows week.drivers
   Ok (record { week = week; past = past })
-
--- a week whose orders are all subcontracted: it has no drivers
-abbrev pub undriven : Week → Result Week Refusal
-undriven week = if length week.drivers == 0 then Ok week else Err because.Drivers
-
--- the week that a week text is planned as
-abbrev pub plan_said : List ℕ → Result Week Refusal
-plan_said text = case_said text >>= λ said. undriven said.week

@@ -110,7 +110,6 @@ fn push_refusal(text: &mut Bytes, refusal: &Refusal) -> Result<(), Memory>
             push_line(text, *error)
         }
         Refusal::NoHistory(name) => push_driver(text, b"history", name.as_slice()),
-        Refusal::Drivers => push_word(text, b"drivers"),
     }
 }
 

@@ -2,20 +2,22 @@
 ghost use Rattle.std.specs.Prelude.{◌≡◌, ◌≤◌, length, map, option_map, IfOk, OnOk};
 ghost use Rattle.minute_line.specs.Histories.{fields_of};
 ghost use Rattle.week_book.specs.Pasts.{HasPastRows};
-ghost use Rattle.week_book.specs.Weeks.{IsWeek};
 ghost use Rattle.duty_plan.specs.Duties.{IsCase};
+ghost use Rattle.duty_plan.specs.Trees.{IsLimits};
 ghost use Rattle.desk_core.specs.Refusing.{Meets};
-ghost use Rattle.desk_core.specs.Planning.{past_or_refusal, pasts_said, all_said, histories_said, nobody, with_driver, case_said, undriven, plan_said};
+ghost use Rattle.desk_core.specs.Planning.{past_or_refusal, pasts_said, all_said, histories_said, nobody, with_driver, case_said};
 ghost use Rattle.desk_core.specs.Books.{gathered, book, Reports};
 
 use crate::refusals::{Refusal, Stop, stop_past};
 use desk_csv::{Form, read_rows};
-use desk_report::report_out;
+use desk_report::report;
 use driver_history::read_past;
-use duty_plan::Case;
+use duty_plan::{Case, Gate, Limits};
 use minute_line::{Bytes, History, Many, Memory, Name};
+use planners::plan_in_turns;
 use std::alloc::Global;
-use week_book::{Driver, Row, Week, check_week};
+use std::thread::Threads;
+use week_book::{Driver, Row, check_week};
 
 /// The history that a driver's rows make, or none where there are no such rows.
 pub(crate) fn past_in(alloc: Global, rows: &Many<Row>, name: &Name) -> Result<Option<History>, Stop>
@@ -104,37 +106,19 @@ pub fn read_case(alloc: Global, text: &Bytes) -> Result<Case, Stop>
     Ok(Case { week, past })
 }
 
-/// The week of a case without drivers.
-fn undriven_week(case: Case) -> Result<Week, Stop>
-    ensures week { Meets (λ week. week) result (undriven case.week) }
-    ensures same { IfOk result (λ week. week ≡ case.week) }
-    ensures undriven { IfOk result (λ week. length week.drivers ≡ 0) }
-{
-    let Case { week, past } = case;
-    let _ = past;
-    if week.drivers.is_empty() {
-        Ok(week)
-    } else {
-        Err(Stop::Refused(Refusal::Drivers))
-    }
-}
-
-/// The week of a week text that has no drivers.
-fn planned_week(alloc: Global, text: &Bytes) -> Result<Week, Stop>
-    requires { length text.now ≤ 1048576 }
-    ensures week { Meets (λ week. week) result (plan_said text.now) }
-    ensures checked { IfOk result IsWeek }
-    ensures undriven { IfOk result (λ week. length week.drivers ≡ 0) }
+/// The report of a week text: that of an outcome that the search finds for its case within the limits.
+pub fn plan_text<R: Threads + Sync, G: Gate + Sync>(
+    rt: &R,
+    gate: &G,
+    alloc: Global,
+    text: &Bytes,
+    limits: &Limits,
+) -> Result<Bytes, Stop>
+    requires text { length text.now ≤ 1048576 }
+    requires limits { IsLimits limits.now }
+    ensures { Reports limits.now result (case_said text.now) }
 {
     let case = read_case(alloc, text)?;
-    undriven_week(case)
-}
-
-/// The report of a week text. The week has no drivers yet: one with drivers is refused, after all other refusals.
-pub fn plan_text(alloc: Global, text: &Bytes) -> Result<Bytes, Stop>
-    requires { length text.now ≤ 1048576 }
-    ensures { Reports result (plan_said text.now) }
-{
-    let week = planned_week(alloc, text)?;
-    Ok(report_out(alloc, &week)?)
+    let outcome = plan_in_turns(rt, gate, alloc, &case, limits)?;
+    Ok(report(alloc, &case, &outcome)?)
 }

@@ -24,8 +24,6 @@ pub enum Refusal {
     Line(Name, LineError),
     /// This driver of a week text has no history.
     NoHistory(Name),
-    /// The week has drivers, whose duties can't be planned yet.
-    Drivers,
 }
 
 /// Why a command came to no end.

@@ -1,10 +1,17 @@
-use Rattle.std.proofs.Common.{sym}
+use Rattle.std.proofs.Common.{refl}
+use Rattle.desk_core.specs.Books.{book}
 use Rattle.desk_core.proofs.planning.plan_text.Goals as goal
 
 pub returns : goal.returns
-returns c = (
-  c.in_ok-week.week,
-  c.in_ok-week.ensures.week,
-  record { week = c.in_ok-week.ensures.checked; drivers = sym c.in_ok-week.ensures.undriven },
-  c.in_ok-report_out.ensures,
+returns g c = (
+  book c.in_ok-case.case,
+  c.in_ok-case.ensures.case,
+  record {
+    case = c.in_ok-case.case;
+    is_said = refl;
+    valid = c.in_ok-case.ensures.valid;
+    outcome = c.in_ok-outcome.outcome;
+    right = c.in_ok-outcome.ensures.right;
+    reported = c.in_ok-report.ensures;
+  },
 )
