@@ -1,2 +1,4 @@
+pub mod OptionSteps
 pub mod Tellings
+pub mod Budgets
 pub mod Runs

@@ -1,16 +1,14 @@
 -- What a status says of a run.
 use Rattle.std.proofs.Common.{◌≡◌, ℕ, ◌⊎◌, ◌∙◌, sym, ap, refl, inl, inr, List, Option, Some, None, Result, Ok, Err, arith}
 use Rattle.desk_io.specs.Device.{counted_up, GivesBytes, NothingLeft, Takes}
-use Rattle.week_book.specs.declared.weeks.Week.{Week}
 use Rattle.week_book.specs.Driven.{did_of}
-use Rattle.duty_plan.specs.Duties.{IsCase}
+use Rattle.duty_plan.specs.declared.outcomes.Limits.{Limits}
 use Rattle.desk_csv.specs.declared.errors.Form.TheVariants as form
-use Rattle.desk_report.specs.Plans.{undriven_case, all_subcontracted}
-use Rattle.desk_report.specs.Reports.{IsReportOut}
-use Rattle.desk_report.proofs.PlanSums.{costs_all, is_lawful}
+use Rattle.branch_tree.proofs.Cover.{no_cheaper}
 use Rattle.desk_core.specs.declared.refusals.Refusal.{Refusal}
-use Rattle.desk_core.specs.declared.refusals.Refusal.TheVariants.{Long, Csv, Week as Weekly, Past, Line, NoHistory, Drivers}
-use Rattle.desk_core.specs.Planning.{plan_said}
+use Rattle.desk_core.specs.declared.refusals.Refusal.TheVariants.{Long, Csv, Week as Weekly, Past, Line, NoHistory}
+use Rattle.desk_core.specs.Books.{IsReportOfRight, book}
+use Rattle.desk_core.specs.Planning.{Book, case_said}
 use Rattle.desk_core.specs.Refusing.{refuse, rows_said}
 use Rattle.desk_core.specs.Checking.{check_said}
 use Rattle.desk_core.proofs.Gathering.{then_ok}
@@ -19,6 +17,7 @@ use Rattle.desk.specs.declared.asks.Ask.{Ask}
 use Rattle.desk.specs.declared.asks.Ask.TheVariants.{Plan, Check}
 use Rattle.desk.specs.Saying.{Said, SaysPlan, SaysCheck, Says, status_of, refused}
 use Rattle.desk.specs.Running.{SaysAsked, Runs, IsPlanned, IsChecked}
+use Rattle.desk.proofs.Budgets.{exact}
 
 -- a refusal's status is 3 or 4
 refusal-status : (r : Refusal) → (status_of r ≡ 3) ⊎ (status_of r ≡ 4)
@@ -28,7 +27,6 @@ refusal-status (Weekly e) = inl refl
 refusal-status (Past name e) = inl refl
 refusal-status (Line name e) = inl refl
 refusal-status (NoHistory name) = inr refl
-refusal-status Drivers = inl refl
 
 -- the statuses of what is said of a text
 IsAnswered : Said → Type 0
@@ -41,10 +39,10 @@ answered-refusal said r e = elim (refusal-status r) [
   | inr four ↦ inr (inr (ap (λ (s : Said). s.status) e ∙ four))
 ]
 
-answered-plan : (r : Result Week Refusal) (said : Said) → SaysPlan r said → IsAnswered said
+answered-plan : (limits : Limits) (r : Result Book Refusal) (said : Said) → SaysPlan limits r said → IsAnswered said
 unfolding IsAnswered
-answered-plan (Ok week) said h = inl h.0
-answered-plan (Err refusal) said h = answered-refusal said refusal h
+answered-plan limits (Ok of) said h = inl h.0
+answered-plan limits (Err refusal) said h = answered-refusal said refusal h
 
 answered-check : (r : Result (List ℕ) Refusal) (said : Said) → SaysCheck r said → IsAnswered said
 unfolding IsAnswered
@@ -52,7 +50,7 @@ answered-check (Ok lines) said h = inl (ap (λ (s : Said). s.status) h)
 answered-check (Err refusal) said h = answered-refusal said refusal h
 
 answered : (ask : Ask) (text : List ℕ) (said : Said) → Says ask text said → IsAnswered said
-answered Plan text said h = answered-plan (plan_said text) said h
+answered (Plan limits) text said h = answered-plan limits (case_said text) said h
 answered Check text said h = answered-check (check_said text) said h
 
 -- where a status that is said comes from, and what the source counted: it failed, the words are no command, or a text was
@@ -165,29 +163,33 @@ not_refused said refusal is zero = elim (refusal-status refusal) [
   | inr four ↦ absurd (omega (arith, zero, four, ap (λ (s : Said). s.status) is))
 ]
 
--- a plan that is told with status 0 is the report of the accepted week
-reported : (r : Result Week Refusal) (said : Said) → SaysPlan r said → said.status ≡ 0
-    → (week : Week) × (r ≡ Ok week) × IsCase (undriven_case week) × IsReportOut week said.text
-reported (Ok week) said h zero = (week, refl, h.1, h.2)
-reported (Err refusal) said h zero = not_refused said refusal h zero
+-- a plan that is told with status 0 is the report of an outcome that is right for the accepted case
+reported : (limits : Limits) (r : Result Book Refusal) (said : Said) → SaysPlan limits r said → said.status ≡ 0
+    → (of : Book) × (r ≡ Ok of) × IsReportOfRight limits of said.text
+reported limits (Ok of) said h zero = (of, refl, h.1)
+reported limits (Err refusal) said h zero = not_refused said refusal h zero
 
-pub planned : (asked : Option Ask) (left rest : Option (List ℕ)) (before after : ℕ) (held holds : Option (List ℕ)) (old new status : ℕ)
-    → Runs asked left rest before after held holds old new status → status ≡ 0 → asked ≡ Some Plan → IsPlanned left rest held holds
-planned asked left rest before after held holds old new status run zero e =
-    let all = succeeds Plan left rest before after held holds old new status (rw e at run) zero in
-    let found = reported (plan_said all.text) all.said all.says all.zero in
-    let none = sym found.2.drivers in record {
+pub planned : (asked : Option Ask) (limits : Limits) (left rest : Option (List ℕ)) (before after : ℕ) (held holds : Option (List ℕ)) (old new status : ℕ)
+    → Runs asked left rest before after held holds old new status → status ≡ 0 → asked ≡ Some (Plan limits) → IsPlanned limits left rest held holds
+planned asked limits left rest before after held holds old new status run zero e =
+    let all = succeeds (Plan limits) left rest before after held holds old new status (rw e at run) zero in
+    let found = reported limits (case_said all.text) all.said all.says all.zero in
+    let of = found.2 in record {
       text = all.text;
       given = all.given;
       ended = all.ended;
-      week = found.0;
-      accepted = found.1;
-      valid = found.2;
+      case = of.case;
+      accepted = found.1 ∙ ap Ok (sym of.is_said);
+      valid = of.valid;
+      outcome = of.outcome;
       report = all.said.text;
-      reports = found.3;
+      reports = of.reported;
       printed = all.printed;
-      lawful = is_lawful found.0 none;
-      bound = λ plan lawful. costs_all found.0 plan none lawful ∙ sym (costs_all found.0 (all_subcontracted found.0) none (is_lawful found.0 none));
+      lawful = of.right.plan.lawful;
+      cost = of.right.plan.costs;
+      bound = λ plan lawful. no_cheaper of.case limits of.outcome plan of.right lawful;
+      unless = exact of.case limits of.outcome of.right;
+      right = of.right;
     }
 
 -- a check that is told with status 0 is the verdicts of the accepted text

@@ -1,17 +1,28 @@
 -- What one run of the desk does to its source and its sink, and the status that it ends with.
-use Rattle.std.specs.Prelude.{◌≡◌, ℕ, ◌<◌, ◌≤◌, ◌⊎◌, List, take, length, Option, Some, None, Ok}
+use Rattle.std.specs.Prelude.{◌≡◌, ℕ, ◌+◌, ◌<◌, ◌≤◌, ◌⊎◌, List, take, length, Option, Some, None, Ok}
 use Rattle.desk_io.specs.Device.{counted_up, GivesBytes, Takes, NothingLeft}
 use Rattle.week_book.specs.declared.rows.Row.{Row}
-use Rattle.week_book.specs.declared.weeks.Week.{Week}
 use Rattle.week_book.specs.Driven.{did_of}
+use Rattle.duty_plan.specs.declared.outcomes.Limits.{Limits}
+use Rattle.duty_plan.specs.declared.outcomes.Outcome.{Outcome}
+use Rattle.duty_plan.specs.declared.outcomes.State.TheVariants.{Proved, OpenLabels, OpenNodes}
+use Rattle.duty_plan.specs.declared.plans.Case.{Case}
 use Rattle.duty_plan.specs.declared.plans.Plan.{Plan}
 use Rattle.duty_plan.specs.Duties.{IsCase, IsLawfulPlan, cost_of_plan}
+use Rattle.duty_plan.specs.declared.deciding.Pairs.{Pairs}
+use Rattle.duty_plan.specs.declared.nodes.Node.{Node}
+use Rattle.duty_plan.specs.declared.nodes.NodeState.TheVariants.{Spent}
+use Rattle.duty_plan.specs.declared.pricing.Prices.{Prices}
+use Rattle.duty_plan.specs.LabelLists.{MayExhaustLabels, chunks_for}
+use Rattle.duty_plan.specs.Nodes.{IsNode, path_of}
+use Rattle.duty_plan.specs.Trees.{IsRight}
+use Rattle.duty_plan.specs.Values.{ArePairsOf}
 use Rattle.desk_csv.specs.declared.errors.Form.TheVariants as form
-use Rattle.desk_report.specs.Plans.{undriven_case, all_subcontracted}
-use Rattle.desk_report.specs.Reports.{IsReportOut}
+use Rattle.desk_report.specs.Reports.{IsReportOf}
 use Rattle.desk_core.specs.declared.refusals.Refusal.TheVariants.{Long}
 use Rattle.desk_core.specs.Refusing.{rows_said}
-use Rattle.desk_core.specs.Planning.{plan_said}
+use Rattle.desk_core.specs.Planning.{case_said}
+use Rattle.desk_core.specs.Books.{book}
 use Rattle.desk_core.specs.Checking.{check_said}
 use Rattle.desk_core.specs.Laws.{AreVerdicts}
 use Rattle.desk.specs.declared.asks.Ask.{Ask}
@@ -60,21 +71,44 @@ Runs ask left rest before after held holds old new status =
     ((said : Said) × SaysAsked ask left rest before after said × Tells said held holds old new status)
     ⊎ (WantsMemory held holds old new status × (after ≡ before))
 
--- a week text was read to its end and accepted; the sink holds its report after what it held; the plan that the report
--- prints is a lawful one; and each lawful plan of the week costs the bound that it prints, which is the cost that it prints
-pub record IsPlanned (left rest held holds : Option (List ℕ)) : Type 0 where
+-- a leaf that has no Free pair wanted labels in a round of its run: there were fewer chunks of them than drivers, or label
+-- lists of all drivers filled the chunks
+pub record WantsLabels (case : Case) (limits : Limits) (outcome : Outcome) : Type 0 where
+  pub number : ℕ
+  pub leaf : Node
+  pub is_leaf : IsNode outcome.tree number leaf
+  pub spent : leaf.state ≡ Spent
+  pub pairs : Pairs
+  pub are_pairs : ArePairsOf case.week (path_of outcome.tree number) pairs
+  pub prices : Prices
+  pub licensed : MayExhaustLabels (chunks_for limits.labels) case pairs prices
+
+-- the bound is the cost, unless a budget was spent that the state names: nodes, so that no two more fit; or labels, which a
+-- round of a leaf wanted that has no Free pair
+pub record IsExact (case : Case) (limits : Limits) (outcome : Outcome) : Type 0 where
+  pub proved : outcome.state ≡ Proved → outcome.bound ≡ outcome.cost
+  pub nodes : outcome.state ≡ OpenNodes → limits.nodes ≤ length outcome.tree + 1
+  pub labels : outcome.state ≡ OpenLabels → WantsLabels case limits outcome
+
+-- a week text was read to its end and accepted, and the sink holds the report of an outcome after what it held. The printed
+-- plan is a lawful one, with the histories that were read, at the printed cost; no lawful plan of the week costs less than
+-- the printed bound; and the bound is the cost, unless a budget was spent that the printed state names
+pub record IsPlanned (limits : Limits) (left rest held holds : Option (List ℕ)) : Type 0 where
   pub text : List ℕ
   pub given : GivesBytes left text rest
   pub ended : NothingLeft rest
-  pub week : Week
-  pub accepted : plan_said text ≡ Ok week
-  pub valid : IsCase (undriven_case week)
+  pub case : Case
+  pub accepted : case_said text ≡ Ok (book case)
+  pub valid : IsCase case
+  pub outcome : Outcome
   pub report : List ℕ
-  pub reports : IsReportOut week report
+  pub reports : IsReportOf case outcome report
   pub printed : Takes held report holds
-  pub lawful : IsLawfulPlan (undriven_case week) (all_subcontracted week)
-  pub bound : (plan : Plan) → IsLawfulPlan (undriven_case week) plan
-      → cost_of_plan (undriven_case week) plan ≡ cost_of_plan (undriven_case week) (all_subcontracted week)
+  pub lawful : IsLawfulPlan case outcome.plan
+  pub cost : cost_of_plan case outcome.plan ≡ outcome.cost
+  pub bound : (plan : Plan) → IsLawfulPlan case plan → outcome.bound ≤ cost_of_plan case plan
+  pub unless : IsExact case limits outcome
+  pub right : IsRight case limits outcome
 
 -- a check text was read to its end and accepted; the sink holds its lines after what it held: one a driver, in their
 -- order, each the verdict on that driver

@@ -1,15 +1,13 @@
 -- What the desk says: a status, and the text that goes with it.
 use Rattle.std.specs.Prelude.{◌≡◌, ⊤, ℕ, List, [], ◌∷◌, ◌++◌, Result, Ok, Err, codes}
-use Rattle.week_book.specs.declared.weeks.Week.{Week}
-use Rattle.duty_plan.specs.Duties.{IsCase}
-use Rattle.desk_report.specs.Plans.{undriven_case}
-use Rattle.desk_report.specs.Reports.{IsReportOut}
+use Rattle.duty_plan.specs.declared.outcomes.Limits.{Limits}
 use Rattle.desk_core.specs.declared.refusals.Refusal.{Refusal}
 use Rattle.desk_core.specs.declared.refusals.Refusal.TheVariants.{NoHistory}
 use Rattle.desk_core.specs.declared.refusals.Stop.{Stop}
 use Rattle.desk_core.specs.declared.refusals.Stop.TheVariants.{Refused, Memory}
 use Rattle.desk_core.specs.Lines.{refusal_text}
-use Rattle.desk_core.specs.Planning.{plan_said}
+use Rattle.desk_core.specs.Planning.{Book, case_said}
+use Rattle.desk_core.specs.Books.{IsReportOfRight}
 use Rattle.desk_core.specs.Checking.{check_said}
 use Rattle.desk.specs.declared.asks.Ask.{Ask}
 use Rattle.desk.specs.declared.asks.Ask.TheVariants.{Plan, Check}
@@ -36,10 +34,10 @@ status_of _ = 3
 abbrev pub refused : Refusal → Said
 refused refusal = record { status = status_of refusal; text = refusal_text refusal }
 
--- a plan is the report of its week, a checked one without drivers, or a refusal
-abbrev pub SaysPlan : Result Week Refusal → Said → Type 0
-SaysPlan (Ok week) said = (said.status ≡ 0) × IsCase (undriven_case week) × IsReportOut week said.text
-SaysPlan (Err refusal) said = said ≡ refused refusal
+-- a plan is the report of an outcome that is right within the limits, or a refusal
+abbrev pub SaysPlan : Limits → Result Book Refusal → Said → Type 0
+SaysPlan limits (Ok of) said = (said.status ≡ 0) × IsReportOfRight limits of said.text
+SaysPlan limits (Err refusal) said = said ≡ refused refusal
 
 -- a check is its lines, or a refusal
 abbrev pub SaysCheck : Result (List ℕ) Refusal → Said → Type 0
@@ -48,7 +46,7 @@ SaysCheck (Err refusal) said = said ≡ refused refusal
 
 -- what is said of a text
 abbrev pub Says : Ask → List ℕ → Said → Type 0
-Says Plan text said = SaysPlan (plan_said text) said
+Says (Plan limits) text said = SaysPlan limits (case_said text) said
 Says Check text said = SaysCheck (check_said text) said
 
 -- what a command answers to a text is what is said of it, unless memory was wanted

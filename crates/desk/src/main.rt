@@ -4,6 +4,7 @@
 #![tactic(auto)]
 
 mod asks;
+mod options;
 mod running;
 #[cfg(test)]
 mod tests;
@@ -11,7 +12,7 @@ mod tests;
 use desk_io::{StdSink, StdSource};
 use minute_line::Memory;
 use running::WANT_OF_MEMORY;
-pub use running::run_desk;
+pub use running::{run_desk, run_gated};
 use std::env;
 use std::io::ErrorKind;
 use std::process::ExitCode;

@@ -18,7 +18,7 @@ const WEEK: &str = "week,2026-03-02,15,3000,15\n";
 type Told = (&'static str, u8, &'static str);
 
 /// Week texts: two without drivers, and one for each kind of refusal.
-const PLANS: [Told; 17] = [
+const PLANS: [Told; 16] = [
     (
         "week,2026-03-02,15,3000,15\nplace,HUB\nplace,LYON\norder,A,LYON,2026-03-02T08:00,2026-03-02T12:00,30,12000,9000\norder,B,LYON,2026-03-03T08:00,2026-03-03T12:00,30,12000,4500\n",
         0,
@@ -66,11 +66,6 @@ const PLANS: [Told; 17] = [
         "week,2026-03-02,15,3000,15\nplace,HUB\ndriver,D0,1,1\ndriver,D1,1,1\ndriver,D2,1,1\ndriver,D3,1,1\ndriver,D4,1,1\ndriver,D5,1,1\ndriver,D6,1,1\ndriver,D7,1,1\ndriver,D8,1,1\ndriver,D9,1,1\ndriver,D10,1,1\ndriver,D11,1,1\ndriver,D12,1,1\ndriver,D13,1,1\ndriver,D14,1,1\ndriver,D15,1,1\ndriver,D16,1,1\n",
         3,
         "refused count drivers 17\n",
-    ),
-    (
-        "week,2026-03-02,15,3000,15\nplace,HUB\nplace,P\nleg,HUB,P,60,3000\nleg,P,HUB,60,3000\ndriver,D1,24000,2000\nrest,D1,2026-02-28T00:00,2700\nworked,D1,0,0,0,0,0,0,0,0,0,0,0,0,0,0,0,0,0\npast,D1,OFF,2880\norder,A,P,2026-03-02T08:00,2026-03-02T12:00,30,12000,9000\n",
-        3,
-        "refused drivers\n",
     ),
     (
         "week,2026-03-02,15,3000,15\nplace,HUB\nplace,P\nleg,HUB,P,60,3000\nleg,P,HUB,60,3000\ndriver,D1,24000,2000\norder,A,P,2026-03-02T08:00,2026-03-02T12:00,30,12000,9000\n",
@@ -294,6 +289,124 @@ const DRIVEN: [(&str, &str, &str); 29] = [
     ("", "WORK 1", "broken H3 0"),
 ];
 
+/// Words that are no command: none, an unknown action, an action twice, an option of another action, a budget above its
+/// largest or below its least size, an option without a value or with a word or ten digits as its value, and one given
+/// twice.
+const NO_COMMANDS: [&[&str]; 13] = [
+    &[],
+    &[""],
+    &["plans"],
+    &["plan", "plan"],
+    &["check", "--nodes", "1"],
+    &["plan", "--seed", "3"],
+    &["plan", "--labels", "2097153"],
+    &["plan", "--nodes", "0"],
+    &["plan", "--rounds", "101"],
+    &["plan", "--rounds"],
+    &["plan", "--nodes", "one"],
+    &["plan", "--labels", "0000000001"],
+    &["plan", "--nodes", "1", "--labels", "0", "--nodes", "1"],
+];
+
+/// The places and legs of a week whose order is an hour away.
+const NEAR: &str = "place,HUB\nplace,P\nleg,HUB,P,60,3000\nleg,P,HUB,60,3000\n";
+
+/// The places and legs of a week whose order is two legs of four and a half hours away.
+const FAR: &str =
+    "place,HUB\nplace,P\nplace,F\nleg,HUB,P,270,5000\nleg,P,F,270,5000\nleg,F,P,270,5000\nleg,P,HUB,270,5000\n";
+
+/// A driver, who was at rest before the week.
+const RESTED: &str =
+    "driver,D1,24000,2000\nrest,D1,2026-02-28T00:00,2700\nworked,D1,0,0,0,0,0,0,0,0,0,0,0,0,0,0,0,0,0\npast,D1,OFF,2880\n";
+
+/// Words; the grid, the places and legs, and the orders of a week of one driver; what its report has after the Monday, and
+/// what it ends with.
+type Planned = (
+    &'static [&'static str],
+    &'static str,
+    &'static str,
+    &'static str,
+    &'static str,
+    &'static str,
+);
+
+/// Weeks of one driver: orders that are carried, by one trip or two and with a night away, or given away where that is
+/// cheaper or the window is a minute too early; no labels; and no orders.
+const DRIVER_PLANS: [Planned; 9] = [
+    (
+        &["plan"],
+        "15",
+        NEAR,
+        "order,A,P,2026-03-02T08:00,2026-03-02T12:00,30,12000,9000\n",
+        "cost 8000\nbound 8000\nstate proved\nnodes 1\ndriver D1 cost 8000\npast D1 2700 0 0,0,0,0,0,0,0,0,0,0,0,0,0,0,0,0 2880 - 0 0\n",
+        "\n",
+    ),
+    (
+        &["plan"],
+        "15",
+        NEAR,
+        "order,A,P,2026-03-02T08:00,2026-03-02T12:00,30,12000,7999\n",
+        "cost 7999\nbound 7999\nstate proved\n",
+        "driver D1 cost 0\npast D1 2700 0 0,0,0,0,0,0,0,0,0,0,0,0,0,0,0,0 2880 - 0 0\norder A out 7999\n",
+    ),
+    (
+        &["plan"],
+        "15",
+        NEAR,
+        "order,A,P,2026-03-02T01:15,2026-03-02T01:15,30,12000,9000\n",
+        "cost 8000\nbound 8000\nstate proved\n",
+        "2026-03-02T00:00 load 15\n2026-03-02T00:15 drive P 60\n2026-03-02T01:15 serve A 30\n2026-03-02T01:45 drive HUB 60\norder A by D1 2026-03-02T01:15\n",
+    ),
+    (
+        &["plan"],
+        "15",
+        NEAR,
+        "order,A,P,2026-03-02T01:14,2026-03-02T01:14,30,12000,9000\n",
+        "cost 9000\nbound 9000\nstate proved\nnodes 1\n",
+        "driver D1 cost 0\npast D1 2700 0 0,0,0,0,0,0,0,0,0,0,0,0,0,0,0,0 2880 - 0 0\norder A out 9000\n",
+    ),
+    (
+        &["plan"],
+        "15",
+        NEAR,
+        "order,A,P,2026-03-02T08:00,2026-03-02T16:00,30,24000,9000\norder,B,P,2026-03-02T08:00,2026-03-02T16:00,30,24000,9000\n",
+        "cost 14000\nbound 14000\nstate proved\nnodes 1\ndriver D1 cost 14000\n",
+        "\n",
+    ),
+    (
+        &["plan"],
+        "60",
+        FAR,
+        "order,A,F,2026-03-02T00:00,2026-03-02T12:00,30,12000,26000\n",
+        "cost 25000\nbound 25000\nstate proved\n",
+        "\n",
+    ),
+    (
+        &["plan"],
+        "60",
+        FAR,
+        "order,A,F,2026-03-02T00:00,2026-03-02T12:00,30,12000,24999\n",
+        "cost 24999\nbound 24999\nstate proved\n",
+        "driver D1 cost 0\npast D1 2700 0 0,0,0,0,0,0,0,0,0,0,0,0,0,0,0,0 2880 - 0 0\norder A out 24999\n",
+    ),
+    (
+        &["plan", "--labels", "0"],
+        "15",
+        NEAR,
+        "order,A,P,2026-03-02T08:00,2026-03-02T12:00,30,12000,9000\n",
+        "cost 9000\nbound 0\nstate labels\nnodes 3\n",
+        "driver D1 cost 0\npast D1 2700 0 0,0,0,0,0,0,0,0,0,0,0,0,0,0,0,0 2880 - 0 0\norder A out 9000\n",
+    ),
+    (
+        &["plan", "--rounds", "2", "--nodes", "1", "--labels", "2048"],
+        "15",
+        NEAR,
+        "",
+        "cost 0\nbound 0\nstate proved\nnodes 1\n",
+        "driver D1 cost 0\npast D1 2700 0 0,0,0,0,0,0,0,0,0,0,0,0,0,0,0,0 2880 - 0 0\n",
+    ),
+];
+
 /// What a run over a text in memory ends with, and what its sink then holds. The devices move at most `piece` bytes in a
 /// call, and the calls of these numbers fail.
 fn run_with<R: Threads + Sync>(
@@ -349,6 +462,38 @@ fn a_week_text_is_planned_or_has_its_first_refusal(rt: HostRuntime) -> Result<()
         (3, "refused utf8 33\n"),
     );
     assert!(rt; told == Ok(true), "at a byte that begins no character");
+    Ok(())
+}
+
+/// The week text of a row of the table.
+fn driver_text(alloc: Global, row: &Planned) -> Result<Bytes, Memory> {
+    let (_, grid, roads, orders, _, _) = *row;
+    let mut text = Many::from_slice(alloc, b"week,2026-03-02,15,3000,")?;
+    for part in [grid, "\n", roads, RESTED, orders] {
+        text.extend_from_slice(part.as_bytes())?;
+    }
+    Ok(text)
+}
+
+#[test]
+fn a_driver_carries_what_is_cheaper_so(rt: HostRuntime) -> Result<(), Fail> {
+    for row in DRIVER_PLANS {
+        let (words, _, _, orders, begins, ends) = row;
+        let text = driver_text(rt.alloc(), &row).ok().ok_or("memory")?;
+        let (status, written) = run_with(&rt, rt.alloc(), words, text.as_slice(), 4096, (0, 0))
+            .ok()
+            .ok_or("memory")?;
+        let head = format!(in rt.alloc(); "week 2026-03-02\n{begins}")?;
+        assert_eq!(rt; status, 0, "at {orders}");
+        assert!(rt;
+            written.as_slice().starts_with(head.as_bytes()),
+            "at {orders}"
+        );
+        assert!(rt;
+            written.as_slice().ends_with(ends.as_bytes()),
+            "at {orders}"
+        );
+    }
     Ok(())
 }
 
@@ -426,7 +571,7 @@ fn words_and_devices_decide_the_status(rt: HostRuntime) -> Result<(), Fail> {
         );
     }
     let usage = b"usage: desk plan|check|publish|show|export|make|serve [--name value]\n";
-    for words in [[].as_slice(), &["plan", "plan"], &["plans"], &[""]] {
+    for words in NO_COMMANDS {
         let (ended, written) = run_with(&rt, rt.alloc(), words, text.as_bytes(), 50, (1, 0))
             .ok()
             .ok_or("memory")?;

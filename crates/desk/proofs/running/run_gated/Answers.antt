@@ -1,10 +1,10 @@
 use Rattle.desk.proofs.Runs.{planned, checked, shows}
-use Rattle.desk.proofs.running.run_desk.Goals as goal
+use Rattle.desk.proofs.running.run_gated.Goals as goal
 
 pub returns-clause-planned : goal.returns-clause-planned
-returns-clause-planned g c =
-    planned _ (g.S.Source.left c.args.source.now) (g.S.Source.left c.run.new.source) (g.S.Source.faults c.args.source.now) (g.S.Source.faults c.run.new.source)
-    (g.K.Sink.held c.args.sink.now) (g.K.Sink.held c.run.new.sink) (g.K.Sink.faults c.args.sink.now) (g.K.Sink.faults c.run.new.sink) c.run.result c.run.ensures
+returns-clause-planned g c = λ zero limits asked.
+    planned _ limits (g.S.Source.left c.args.source.now) (g.S.Source.left c.run.new.source) (g.S.Source.faults c.args.source.now) (g.S.Source.faults c.run.new.source)
+    (g.K.Sink.held c.args.sink.now) (g.K.Sink.held c.run.new.sink) (g.K.Sink.faults c.args.sink.now) (g.K.Sink.faults c.run.new.sink) c.run.result c.run.ensures zero asked
 
 pub returns-clause-checked : goal.returns-clause-checked
 returns-clause-checked g c =
