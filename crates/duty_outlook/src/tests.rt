@@ -54,6 +54,7 @@ fn each_cell_is_what_the_ways_home_save(rt: HostRuntime) {
             minute,
             orders,
         };
+        assert!(rt; level < 32);
         let number = outlook.row_at(spot)[level];
         let cents = i128::from(number) - i128::from(NOTHING);
         assert!(rt;
