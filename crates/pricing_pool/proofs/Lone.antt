@@ -46,8 +46,9 @@ module _ (m : ℕ) (case : Case) (pairs : Pairs) (prices : Prices) (driver : ℕ
       ((x : ℕ) → total (λ s. times_of_seat x s.drawn) (seat ∷ []) ≡ once_below x counter) → IsAnswer m case pairs prices driver answer
   lone-answer seat (Least value duty) priced counter once = priced.found
   lone-answer seat NoDuty priced counter once = priced.found
-  lone-answer seat (Spent stored) priced counter once =
-      (joined_licence m case pairs prices (λ k. k) counter (worker seat.drawn priced.entries ∷ [])
-      (joined seat.drawn priced.entries priced.seat counter (λ x. omega (arith, once x)))
-      0 (worker seat.drawn priced.entries) refl priced.found.0,
-      stores priced.entries stored priced.seat.list priced.found.1)
+  lone-answer seat (Spent stored) priced counter once = (
+    joined_licence m case pairs prices (λ k. k) counter (worker seat.drawn priced.entries ∷ [])
+        (joined seat.drawn priced.entries priced.seat counter (λ x. omega (arith, once x)))
+        0 (worker seat.drawn priced.entries) refl priced.found.0,
+    stores priced.entries stored priced.seat.list priced.found.1,
+  )
