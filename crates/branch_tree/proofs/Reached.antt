@@ -16,11 +16,11 @@ use Rattle.duty_plan.specs.declared.pricing.Priced.{Priced}
 use Rattle.duty_plan.specs.declared.pricing.Priced.TheVariants.{Least, NoDuty, Spent as SpentAnswer}
 use Rattle.duty_plan.specs.LabelLists.{MayExhaustLabels, chunks_for}
 use Rattle.duty_plan.specs.Rounds.{has_spent}
-use Rattle.duty_plan.specs.Trees.{HasLeaf, IsRight}
+use Rattle.duty_plan.specs.Trees.{HasLeaf, IsRight, IsWithinReach}
 use Rattle.duty_plan.proofs.Lists.{slice_get-lt}
 use Rattle.price_master.proofs.Carried.{get-below}
 use Rattle.branch_tree.specs.Growth.{IsGrown, outcome_of, settled}
-use Rattle.branch_tree.specs.Reaching.{AreWeights, IsWithinReach}
+use Rattle.branch_tree.specs.Reaching.{AreWeights}
 use Rattle.branch_tree.specs.Searching.{IsSearching}
 use Rattle.branch_tree.proofs.SearchFacts.{right}
 use Rattle.branch_tree.proofs.Fitting.{settled-weighs, two-fit}

@@ -1,30 +1,15 @@
--- Limits within which a search ends proved, and how far a tree can grow.
-use Rattle.std.specs.Prelude.{◌≡◌, ◌≢◌, ℕ, zero, suc, pred, ◌+◌, ◌-◌, ◌*◌, ◌^◌, ◌<◌, ◌≤◌, List, length, Some, slice_get}
+-- How far a tree can grow.
+use Rattle.std.specs.Prelude.{◌≡◌, ◌≢◌, ℕ, zero, suc, pred, ◌+◌, ◌*◌, ◌^◌, ◌≤◌, List, length, Some, slice_get}
 use Rattle.std.specs.List.{sum_by}
 use Rattle.week_book.specs.declared.weeks.Week.{Week}
-use Rattle.duty_plan.specs.declared.plans.Case.{Case}
-use Rattle.duty_plan.specs.declared.outcomes.Limits.{Limits}
 use Rattle.duty_plan.specs.declared.nodes.Decision.{Decision}
 use Rattle.duty_plan.specs.declared.nodes.Node.{Node}
 use Rattle.duty_plan.specs.declared.nodes.NodeState.TheVariants.{Branched}
 use Rattle.duty_plan.specs.declared.deciding.Pair.{Pair}
 use Rattle.duty_plan.specs.declared.deciding.Pair.TheVariants.{Free, Forced, Barred}
-use Rattle.duty_plan.specs.declared.deciding.Pairs.{Pairs}
-use Rattle.duty_plan.specs.declared.pricing.Prices.{Prices}
-use Rattle.duty_plan.specs.Duties.{EachOf}
 use Rattle.duty_plan.specs.Sums.{total_below}
 use Rattle.duty_plan.specs.Values.{decided_by}
-use Rattle.duty_plan.specs.LabelLists.{Entry, IsLabelList, chunks_for, total_length}
 use Rattle.duty_plan.specs.Nodes.{IsNode, path_of}
-
--- nodes enough for every tree, where each branching decides a driver and an order more; as many chunks as drivers; and
--- labels enough for every pricing, since no label lists of all drivers fill the chunks
-pub record IsWithinReach (case : Case) (limits : Limits) : Type 0 where
-  pub nodes : 2 ^ (length case.week.drivers * length case.week.orders + 1) ≤ limits.nodes + 1
-  pub chunks : length case.week.drivers ≤ chunks_for limits.labels
-  pub labels : (pairs : Pairs) (prices : Prices) (lists : List (List Entry)) → length lists ≡ length case.week.drivers →
-      EachOf (λ driver entries. IsLabelList case driver pairs prices entries) lists →
-      total_length lists < (chunks_for limits.labels - length case.week.drivers + 1) * 1024
 
 -- a Free pair counts, and no other
 abbrev pub free_count : Pair → ℕ

@@ -1,5 +1,6 @@
 // The two children of a node.
 ghost use Rattle.std.specs.Prelude.{◌≡◌, ℕ, ◌+◌, ◌≤◌, ◌++◌, ◌∷◌, [], List, length, IfOk, Some, slice_get};
+ghost use Rattle.std.specs.Thread.{IsSync};
 ghost use Rattle.duty_plan.specs.declared.nodes.Node.{Node as GhostNode};
 ghost use Rattle.week_book.specs.Weeks.{IsWeek};
 ghost use Rattle.duty_plan.specs.Duties.{IsCase};
@@ -45,14 +46,16 @@ fn start_under(
 }
 
 /// The children of the node of that number, each after its rounds: the forcing one, then the barring one.
-pub(crate) fn children<R: Threads + Sync, G: Gate + Sync, P: Pricer>(
-    task: &Task<'_, R, G>,
+pub(crate) fn children<R: Threads + Sync, P: Pricer>(
+    task: &Task<'_, R>,
+    gate: &(dyn Gate + Sync),
     pricer: &mut P,
     kept: &mut Kept,
     tree: &[Node],
     counts: &[Many<u32>],
     number: u32,
 ) -> Result<(Leaf, Leaf), Memory>
+    requires sync { IsSync R.row }
     requires case { IsCase task.now.case.now }
     requires limits { IsLimits task.now.limits.now }
     requires chunks { P.chunks pricer.old ≡ chunks_for task.now.limits.now.labels }
@@ -85,7 +88,7 @@ pub(crate) fn children<R: Threads + Sync, G: Gate + Sync, P: Pricer>(
     let bar = Decision::Barred(driver, order);
     let forced = start_under(alloc, week, tree, number, force)?;
     let barred = start_under(alloc, week, tree, number, bar)?;
-    let one = run_node(task, pricer, kept, &forced, number, force)?;
-    let two = run_node(task, pricer, kept, &barred, number, bar)?;
+    let one = run_node(task, gate, pricer, kept, &forced, number, force)?;
+    let two = run_node(task, gate, pricer, kept, &barred, number, bar)?;
     Ok((one, two))
 }

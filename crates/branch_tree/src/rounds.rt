@@ -1,5 +1,6 @@
 // The rounds of a node.
 ghost use Rattle.std.specs.Prelude.{◌≡◌, ℕ, ◌≤◌, IfOk};
+ghost use Rattle.std.specs.Thread.{IsSync};
 ghost use Rattle.duty_plan.specs.Duties.{IsCase};
 ghost use Rattle.duty_plan.specs.Values.{IsPairs, IsPrices};
 ghost use Rattle.duty_plan.specs.LabelLists.{chunks_for};
@@ -53,23 +54,24 @@ fn leaf_of(
 
 /// What all rounds of a search share: who runs them, and the case and the limits that they are for.
 #[derive(Drop)]
-pub(crate) struct Task<'a, R, G> {
+pub(crate) struct Task<'a, R> {
     pub rt: &'a R,
-    pub gate: &'a G,
     pub alloc: Global,
     pub case: &'a Case,
     pub limits: &'a Limits,
 }
 
 /// Runs the rounds of a node that begins so.
-pub(crate) fn run_node<R: Threads + Sync, G: Gate + Sync, P: Pricer>(
-    task: &Task<'_, R, G>,
+pub(crate) fn run_node<R: Threads + Sync, P: Pricer>(
+    task: &Task<'_, R>,
+    gate: &(dyn Gate + Sync),
     pricer: &mut P,
     kept: &mut Kept,
     start: &NodeStart,
     parent: u32,
     decision: Decision,
 ) -> Result<Leaf, Memory>
+    requires sync { IsSync R.row }
     requires case { IsCase task.now.case.now }
     requires limits { IsLimits task.now.limits.now }
     requires chunks { P.chunks pricer.old ≡ chunks_for task.now.limits.now.labels }
@@ -96,7 +98,7 @@ pub(crate) fn run_node<R: Threads + Sync, G: Gate + Sync, P: Pricer>(
     let mut carried = evens(alloc, &case.week)?;
     let mut k = 0;
     loop {
-        let answers = pricer.round(task.rt, task.gate, alloc, case, &start.pairs, &now)?;
+        let answers = pricer.round(task.rt, gate, alloc, case, &start.pairs, &now)?;
         if !is_whole(answers.as_slice()) {
             let state = state_of(has_none(answers.as_slice()), kept.cost <= bound, decided);
             return Ok(leaf_of(parent, decision, prices, bound, state, carried));

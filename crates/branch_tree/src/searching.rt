@@ -1,11 +1,11 @@
 // The search.
 ghost use Rattle.std.specs.Prelude.{◌≡◌, IfOk};
+ghost use Rattle.std.specs.Thread.{IsSync};
 ghost use Rattle.week_book.specs.Weeks.{IsWeek};
 ghost use Rattle.duty_plan.specs.Duties.{IsCase};
 ghost use Rattle.duty_plan.specs.LabelLists.{chunks_for};
-ghost use Rattle.duty_plan.specs.Trees.{IsLimits, IsRight};
+ghost use Rattle.duty_plan.specs.Trees.{IsLimits, IsRight, IsWithinReach};
 ghost use Rattle.duty_plan.specs.declared.outcomes.State.TheVariants.{Proved};
-ghost use Rattle.branch_tree.specs.Reaching.{IsWithinReach};
 ghost use Rattle.branch_tree.specs.Searching.{IsRootStart};
 
 use crate::children::children;
@@ -35,14 +35,15 @@ fn root_start(alloc: Global, week: &Week) -> Result<NodeStart, Memory>
 
 /// Searches for a cheap plan of the case, within the limits: a lawful plan at its cost, a bound that no lawful plan beats,
 /// and the tree that shows it. Limits with nodes and labels enough for every tree and pricing leave the cost proved.
-pub fn search<R: Threads + Sync, G: Gate + Sync, P: Pricer>(
+pub fn search<R: Threads + Sync, P: Pricer>(
     rt: &R,
-    gate: &G,
+    gate: &(dyn Gate + Sync),
     alloc: Global,
     case: &Case,
     limits: &Limits,
     pricer: &mut P,
 ) -> Result<Outcome, Memory>
+    requires sync { IsSync R.row }
     requires case { IsCase case.now }
     requires limits { IsLimits limits.now }
     requires chunks { P.chunks pricer.old ≡ chunks_for limits.now.labels }
@@ -51,7 +52,6 @@ pub fn search<R: Threads + Sync, G: Gate + Sync, P: Pricer>(
 {
     let task = Task {
         rt,
-        gate,
         alloc,
         case,
         limits,
@@ -59,7 +59,7 @@ pub fn search<R: Threads + Sync, G: Gate + Sync, P: Pricer>(
     let mut kept = first_kept(alloc, case)?;
     let mut tree = Many::new(alloc);
     let start = root_start(alloc, &case.week)?;
-    let root = run_node(&task, pricer, &mut kept, &start, 0, Decision::Root)?;
+    let root = run_node(&task, gate, pricer, &mut kept, &start, 0, Decision::Root)?;
     tree.push(root.node)?;
     let mut counts = Many::new(alloc);
     counts.push(root.counts)?;
@@ -70,6 +70,7 @@ pub fn search<R: Threads + Sync, G: Gate + Sync, P: Pricer>(
         let cost = kept.cost;
         let (one, two) = children(
             &task,
+            gate,
             pricer,
             &mut kept,
             tree.as_slice(),

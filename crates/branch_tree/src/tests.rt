@@ -42,10 +42,10 @@ fn home_answer(alloc: Global, case: &Case) -> Priced
 impl Pricer for Homebody {
     ghost chunks = { λ _. 0 };
 
-    fn round<R: Threads + Sync, G: Gate + Sync>(
+    fn round<R: Threads + Sync>(
         &mut self,
         _rt: &R,
-        _gate: &G,
+        _gate: &(dyn Gate + Sync),
         alloc: Global,
         case: &Case,
         _pairs: &Pairs,
@@ -56,6 +56,20 @@ impl Pricer for Homebody {
             answers.push(home_answer(alloc, case))?;
         }
         Ok(answers)
+    }
+
+    fn guess(
+        &mut self,
+        alloc: Global,
+        case: &Case,
+        _pairs: &Pairs,
+        _prices: &Prices,
+    ) -> Result<Many<Option<Duty>>, Memory> {
+        let mut guesses = Many::new(alloc);
+        for _driver in case.week.drivers.as_slice() {
+            guesses.push(None)?;
+        }
+        Ok(guesses)
     }
 }
 

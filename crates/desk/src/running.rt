@@ -13,6 +13,7 @@ use desk_core::{Refusal, Stop, check_text, plan_text, refusal_line};
 use desk_io::{ReadError, Sink, SinkFault, Source, read_all, write_all};
 use duty_plan::{Gate, Straight};
 use minute_line::{Bytes, Memory};
+use planners::TurnPlanner;
 use std::alloc::Global;
 use std::thread::Threads;
 
@@ -63,9 +64,9 @@ fn tell_refusal<K: Sink>(alloc: Global, sink: &mut K, refusal: &Refusal) -> u8
 }
 
 /// The desk's answer to a text: a report or the verdicts, or its refusal.
-fn answer<R: Threads + Sync, G: Gate + Sync>(
+fn answer<R: Threads + Sync>(
     rt: &R,
-    gate: &G,
+    gate: &(dyn Gate + Sync),
     alloc: Global,
     ask: Ask,
     text: &Bytes,
@@ -75,15 +76,15 @@ fn answer<R: Threads + Sync, G: Gate + Sync>(
     ensures { AnswersAsk ask text.now result }
 {
     match ask {
-        Ask::Plan(limits) => plan_text(rt, gate, alloc, text, &limits),
+        Ask::Plan(limits) => plan_text(rt, gate, alloc, text, &limits, &mut TurnPlanner),
         Ask::Check => check_text(alloc, text),
     }
 }
 
 /// Tells the answer to a text.
-fn tell_answer<R: Threads + Sync, G: Gate + Sync, K: Sink>(
+fn tell_answer<R: Threads + Sync, K: Sink>(
     rt: &R,
-    gate: &G,
+    gate: &(dyn Gate + Sync),
     alloc: Global,
     ask: Ask,
     text: &Bytes,
@@ -101,9 +102,9 @@ fn tell_answer<R: Threads + Sync, G: Gate + Sync, K: Sink>(
 }
 
 /// One run: words, read, text, sink.
-fn run<R: Threads + Sync, G: Gate + Sync, S: Source, K: Sink>(
+fn run<R: Threads + Sync, S: Source, K: Sink>(
     rt: &R,
-    gate: &G,
+    gate: &(dyn Gate + Sync),
     alloc: Global,
     words: &Vec<String>,
     source: &mut S,
@@ -127,9 +128,9 @@ fn run<R: Threads + Sync, G: Gate + Sync, S: Source, K: Sink>(
 /// 4, with its line, where the text is refused; 5, with `refused read`, where the source failed; 6 where the sink failed,
 /// which then took a beginning of the text; 8 for want of memory, with nothing written. Drivers are priced in turn, so
 /// nobody passes the gate.
-pub fn run_gated<R: Threads + Sync, G: Gate + Sync, S: Source, K: Sink>(
+pub fn run_gated<R: Threads + Sync, S: Source, K: Sink>(
     rt: &R,
-    gate: &G,
+    gate: &(dyn Gate + Sync),
     alloc: Global,
     words: &Vec<String>,
     source: &mut S,

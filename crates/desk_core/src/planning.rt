@@ -12,9 +12,8 @@ use crate::refusals::{Refusal, Stop, stop_past};
 use desk_csv::{Form, read_rows};
 use desk_report::report;
 use driver_history::read_past;
-use duty_plan::{Case, Gate, Limits};
+use duty_plan::{Case, Gate, Limits, Planner};
 use minute_line::{Bytes, History, Many, Memory, Name};
-use planners::plan_in_turns;
 use std::alloc::Global;
 use std::thread::Threads;
 use week_book::{Driver, Row, check_week};
@@ -106,19 +105,20 @@ pub fn read_case(alloc: Global, text: &Bytes) -> Result<Case, Stop>
     Ok(Case { week, past })
 }
 
-/// The report of a week text: that of an outcome that the search finds for its case within the limits.
-pub fn plan_text<R: Threads + Sync, G: Gate + Sync>(
+/// The report of a week text: that of an outcome that the planner finds for its case within the limits.
+pub fn plan_text<R: Threads + Sync, P: Planner>(
     rt: &R,
-    gate: &G,
+    gate: &(dyn Gate + Sync),
     alloc: Global,
     text: &Bytes,
     limits: &Limits,
+    planner: &mut P,
 ) -> Result<Bytes, Stop>
     requires text { length text.now ≤ 1048576 }
     requires limits { IsLimits limits.now }
     ensures { Reports limits.now result (case_said text.now) }
 {
     let case = read_case(alloc, text)?;
-    let outcome = plan_in_turns(rt, gate, alloc, &case, limits)?;
+    let outcome = planner.solve(rt, gate, alloc, &case, limits)?;
     Ok(report(alloc, &case, &outcome)?)
 }

@@ -9,9 +9,9 @@ ghost use Rattle.duty_plan.specs.Duties.{partial_of};
 ghost use Rattle.desk_report.specs.Lines.{with_lines};
 ghost use Rattle.desk_report.specs.Steps.{StaysInWeek, kind_word, place_name, order_name, ready_lines, off_lines, act_words, step_lines, duty_lines};
 
-use duty_plan::{Act, Duty, Step};
+use duty_plan::{Act, Duty, Step, minutes_at, place_after};
 use minute_line::{Bytes, Kind, Memory, push_number, push_word, stamp_in};
-use week_book::{Week, leg};
+use week_book::Week;
 
 /// The days of a week as text, Monday first.
 pub(crate) type Days = [[u8; 10]; 7];
@@ -23,33 +23,6 @@ pub(crate) struct Whereabouts {
     pub(crate) at: u32,
     /// The place where they end.
     pub(crate) place: u32,
-}
-
-/// The minutes of an act that begins at a place.
-fn act_minutes(week: &Week, place: u32, act: Act) -> u32
-    ensures { result ≡ minutes_of week.now place act }
-{
-    match act {
-        Act::Leg(to) => match leg(week, place, to) {
-            Some(leg) => leg.minutes,
-            None => 0,
-        },
-        Act::Serve(order) => match week.orders.get(order as usize) {
-            Some(order) => order.service,
-            None => 0,
-        },
-        Act::Load => week.load,
-    }
-}
-
-/// The place after an act that begins at a place.
-fn place_by(act: Act, place: u32) -> u32
-    ensures { result ≡ place_by act place }
-{
-    match act {
-        Act::Leg(to) => to,
-        Act::Serve(_) | Act::Load => place,
-    }
 }
 
 impl Whereabouts {
@@ -75,10 +48,10 @@ impl Whereabouts {
         ensures at { result.at ≡ self.at + step.now.stay.ready + step.now.stay.off + minutes_of week.now self.place step.now.act }
         ensures place { result.place ≡ place_by step.now.act self.place }
     {
-        let minutes = act_minutes(week, self.place, step.act);
+        let minutes = minutes_at(week, self.place, step.act);
         Whereabouts {
             at: self.at + step.stay.ready + step.stay.off + minutes,
-            place: place_by(step.act, self.place),
+            place: place_after(step.act, self.place),
         }
     }
 }
@@ -194,7 +167,7 @@ fn push_step(
     requires { here.at + step.now.stay.ready + step.now.stay.off < 10080 }
     ensures { OnOk result (text.new ≡ with_lines text.old (step_lines days.now week.now here.at here.place step.now)) }
 {
-    let minutes = act_minutes(week, here.place, step.act);
+    let minutes = minutes_at(week, here.place, step.act);
     push_ready(text, days, here.at, step.stay.ready)?;
     push_off(
         text,

@@ -1,6 +1,7 @@
 -- A round of answers, how prices move after it, and the run of a node.
-use Rattle.std.specs.Prelude.{◌≡◌, ◌⊎◌, ℕ, zero, suc, pred, ◌+◌, ◌-◌, ◌*◌, ◌/◌, ◌<◌, ◌≤◌, min, max, Bool, true, false, ◌&&◌, ◌||◌, if◌then◌else◌, List, [], ◌∷◌, ◌++◌, length, ℤ, Some, slice_get}
+use Rattle.std.specs.Prelude.{◌≡◌, ◌⊎◌, ℕ, zero, suc, pred, ◌+◌, ◌-◌, ◌*◌, ◌/◌, ◌<◌, ◌≤◌, min, max, Bool, true, false, ◌&&◌, ◌||◌, if◌then◌else◌, List, [], ◌∷◌, ◌++◌, length, ℤ, Option, Some, IfSome, slice_get}
 use Rattle.week_book.specs.declared.weeks.Week.{Week}
+use Rattle.duty_plan.specs.declared.duties.Duty.{Duty}
 use Rattle.duty_plan.specs.declared.plans.Case.{Case}
 use Rattle.duty_plan.specs.declared.deciding.Pairs.{Pairs}
 use Rattle.duty_plan.specs.declared.nodes.NodeStart.{NodeStart}
@@ -9,7 +10,7 @@ use Rattle.duty_plan.specs.declared.pricing.Priced.{Priced}
 use Rattle.duty_plan.specs.declared.pricing.Priced.TheVariants.{Least, NoDuty, Spent}
 use Rattle.duty_plan.specs.PartialDuties.{serves}
 use Rattle.duty_plan.specs.Duties.{EachOf, partial_of, price_of}
-use Rattle.duty_plan.specs.Values.{price_at, IsLeast, HasNoDuty, IsDecided, lagrangian}
+use Rattle.duty_plan.specs.Values.{price_at, IsChoice, IsLeast, HasNoDuty, IsDecided, lagrangian}
 use Rattle.duty_plan.specs.LabelLists.{MayExhaustLabels, MayStore}
 
 -- the answer for a driver is right: a least value with a duty that has it, no duty where there is none, or Spent where
@@ -23,6 +24,11 @@ IsAnswer m case pairs prices driver (Spent stored) = MayExhaustLabels m case pai
 pub record IsRound (m : ℕ) (case : Case) (pairs : Pairs) (prices : Prices) (answers : List Priced) : Type 0 where
   pub drivers : length answers ≡ length case.week.drivers
   pub each : EachOf (IsAnswer m case pairs prices) answers
+
+-- a guess for each driver is a duty that the driver may be given, or none
+pub record AreGuesses (case : Case) (pairs : Pairs) (guesses : List (Option Duty)) : Type 0 where
+  pub drivers : length guesses ≡ length case.week.drivers
+  pub each : EachOf (λ driver guess. IfSome guess (IsChoice case driver pairs)) guesses
 
 -- the answer gives a least value
 abbrev pub is_least : Priced → Bool

@@ -1,5 +1,5 @@
 -- What the outcome of a search must show.
-use Rattle.std.specs.Prelude.{◌≡◌, ◌≢◌, ◌⊎◌, ◌↔◌, ℕ, pred, ◌+◌, ◌<◌, ◌≤◌, true, false, List, [], length, map, ℤ, Some, slice_get}
+use Rattle.std.specs.Prelude.{◌≡◌, ◌≢◌, ◌⊎◌, ◌↔◌, ℕ, pred, ◌+◌, ◌-◌, ◌*◌, ◌^◌, ◌<◌, ◌≤◌, true, false, List, [], length, map, ℤ, Some, slice_get}
 use Rattle.week_book.specs.declared.weeks.Week.{Week}
 use Rattle.duty_plan.specs.declared.plans.Case.{Case}
 use Rattle.duty_plan.specs.declared.plans.Plan.{Plan}
@@ -13,11 +13,12 @@ use Rattle.duty_plan.specs.declared.nodes.Node.{Node}
 use Rattle.duty_plan.specs.declared.nodes.NodeStart.{NodeStart}
 use Rattle.duty_plan.specs.declared.nodes.NodeState.{NodeState}
 use Rattle.duty_plan.specs.declared.nodes.NodeState.TheVariants.{Branched, Closed, Empty, Open, Spent}
+use Rattle.duty_plan.specs.declared.deciding.Pairs.{Pairs}
 use Rattle.duty_plan.specs.declared.pricing.Prices.{Prices}
 use Rattle.duty_plan.specs.declared.pricing.Priced.TheVariants.{Least}
-use Rattle.duty_plan.specs.Duties.{IsLawfulPlan, cost_of_plan}
+use Rattle.duty_plan.specs.Duties.{EachOf, IsLawfulPlan, cost_of_plan}
 use Rattle.duty_plan.specs.Values.{ArePairsOf, cost_of_all}
-use Rattle.duty_plan.specs.LabelLists.{chunks_for}
+use Rattle.duty_plan.specs.LabelLists.{Entry, IsLabelList, chunks_for, total_length}
 use Rattle.duty_plan.specs.Rounds.{Round, ArePricingRounds, is_whole, has_none, has_spent}
 use Rattle.duty_plan.specs.Nodes.{path_of, IsNode, HasFree, IsTree}
 use Rattle.duty_plan.specs.Branching.{IsBestFirst, HasIncumbentCosts, IsBranchingPair}
@@ -129,3 +130,12 @@ pub record IsLimits (limits : Limits) : Type 0 where
   pub labels : limits.labels ≤ 2097152
   pub nodes : (1 ≤ limits.nodes) × (limits.nodes ≤ 4095)
   pub rounds : (1 ≤ limits.rounds) × (limits.rounds ≤ 100)
+
+-- nodes enough for every tree, where each branching decides a driver and an order more; as many chunks as drivers; and
+-- labels enough for every pricing, since no label lists of all drivers fill the chunks
+pub record IsWithinReach (case : Case) (limits : Limits) : Type 0 where
+  pub nodes : 2 ^ (length case.week.drivers * length case.week.orders + 1) ≤ limits.nodes + 1
+  pub chunks : length case.week.drivers ≤ chunks_for limits.labels
+  pub labels : (pairs : Pairs) (prices : Prices) (lists : List (List Entry)) → length lists ≡ length case.week.drivers →
+      EachOf (λ driver entries. IsLabelList case driver pairs prices entries) lists →
+      total_length lists < (chunks_for limits.labels - length case.week.drivers + 1) * 1024

@@ -43,6 +43,7 @@ pub use laws::{
 };
 pub use lines::line_of;
 pub use nodes::{Decision, Node, NodeStart, NodeState};
+pub use office::{minutes_at, place_after};
 pub use orders::serves;
 pub use outcomes::{Limits, Outcome, State};
 pub use planning::{Gate, Planner, Pricer, Straight};

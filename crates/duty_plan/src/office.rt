@@ -46,7 +46,7 @@ pub(crate) fn effect_of(week: &Week, place: u32, act: Act) -> Option<ActEffect>
 }
 
 /// How many minutes the act takes from the place, or 0 where it names no road and no order.
-pub(crate) fn minutes_at(week: &Week, place: u32, act: Act) -> u32
+pub fn minutes_at(week: &Week, place: u32, act: Act) -> u32
     ensures { result ≡ minutes_of week.now place act }
 {
     match act {
@@ -63,7 +63,7 @@ pub(crate) fn minutes_at(week: &Week, place: u32, act: Act) -> u32
 }
 
 /// Where the driver is after the act.
-pub(crate) fn place_after(act: Act, place: u32) -> u32
+pub fn place_after(act: Act, place: u32) -> u32
     ensures { result ≡ place_by act place }
 {
     match act {

@@ -41,10 +41,10 @@ fn home_answer(alloc: Global, case: &Case) -> Priced
 impl Pricer for Homebody {
     ghost chunks = { λ _. 0 };
 
-    fn round<R: Threads + Sync, G: Gate + Sync>(
+    fn round<R: Threads + Sync>(
         &mut self,
         _rt: &R,
-        _gate: &G,
+        _gate: &(dyn Gate + Sync),
         alloc: Global,
         case: &Case,
         _pairs: &Pairs,
@@ -55,6 +55,20 @@ impl Pricer for Homebody {
             answers.push(home_answer(alloc, case))?;
         }
         Ok(answers)
+    }
+
+    fn guess(
+        &mut self,
+        alloc: Global,
+        case: &Case,
+        _pairs: &Pairs,
+        _prices: &Prices,
+    ) -> Result<Many<Option<Duty>>, Memory> {
+        let mut guesses = Many::new(alloc);
+        for _driver in case.week.drivers.as_slice() {
+            guesses.push(None)?;
+        }
+        Ok(guesses)
     }
 }
 
@@ -80,10 +94,10 @@ fn home_plan(alloc: Global, drivers: &[Driver]) -> Result<Plan, Memory>
 }
 
 impl Planner for StayAtHome {
-    fn solve<R: Threads + Sync, G: Gate + Sync>(
+    fn solve<R: Threads + Sync>(
         &mut self,
         _rt: &R,
-        _gate: &G,
+        _gate: &(dyn Gate + Sync),
         alloc: Global,
         case: &Case,
         _limits: &Limits,

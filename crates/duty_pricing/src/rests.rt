@@ -8,8 +8,8 @@ ghost use Rattle.duty_pricing.specs.Listing.{rest_stay};
 
 use crate::asking::Asked;
 use duty_plan::Act;
-use hours_rules::{Clock, DAILY_REST, Stay};
-use minute_line::{Kind, REGULAR_WEEKLY_REST, WEEK_MINUTES, WEEKLY_REST};
+use hours_rules::{Clock, Stay, least_run};
+use minute_line::{Kind, WEEK_MINUTES};
 
 /// The listed rest of a kind from a week minute until another.
 pub(crate) fn rest_stay(at: u32, kind: Kind, start: u32) -> Stay
@@ -22,26 +22,13 @@ pub(crate) fn rest_stay(at: u32, kind: Kind, start: u32) -> Stay
     }
 }
 
-/// The shortest off run that may be declared so, in minutes, after a weekly rest of so many minutes and where so many are owed
-/// (Art. 4, 8(6)).
-fn shortest_rest(kind: Kind, weekly: u32, owed: u32) -> u32
-    ensures { result ≡ least_rest kind weekly owed }
-{
-    match kind {
-        Kind::Plain => 0,
-        Kind::Daily => DAILY_REST,
-        Kind::Weekly if weekly < REGULAR_WEEKLY_REST || owed > 0 => REGULAR_WEEKLY_REST,
-        Kind::Weekly => WEEKLY_REST,
-    }
-}
-
 /// The first turn of the grid until which a rest after a clock is long enough, with the off run that is open there.
 pub(crate) fn first_turn(asked: &Asked, clock: &Clock, kind: Kind) -> u32
     requires asked { IsAsked asked.now }
     ensures { (turn : ℕ) → turn < result → clock.now.at ≤ turn * asked.now.case.now.week.grid →
         clock.now.off + (turn * asked.now.case.now.week.grid - clock.now.at) < least_rest kind clock.now.prev_weekly clock.now.owed }
 {
-    let shortest = shortest_rest(kind, clock.prev_weekly, clock.owed);
+    let shortest = least_run(kind, clock.prev_weekly, clock.owed);
     let end = clock.at.saturating_add(shortest.saturating_sub(clock.off));
     end.div_ceil(asked.case.week.grid)
 }

@@ -23,6 +23,7 @@ pub use laws::{
     day_follows_rest, fault_is_first, fifteen_then_thirty_end_a_period, forty_five_ends_a_period,
     last_keeps_limits, order_lasts, ready_catches_up, spans_begin, thirty_then_fifteen_end_none,
 };
+pub use limits::least_run;
 pub use rules::{Broken, Rule, Verdict, number};
 pub use thresholds::{
     BRIEFLY_PAUSED_WORK, DAILY_REST, DAY_BEFORE_REST, DAY_DRIVE, DAY_LENGTH, FIRST_PART,

@@ -32,10 +32,10 @@ const RULES: [Rule; 12] = [
     Rule::H12,
 ];
 
-/// How long a run that is declared so must be, after a weekly rest of so many minutes and where so many are owed (Art. 4,
+/// How many minutes an off run that is declared so must have, after a weekly rest of so many minutes and where so many are owed (Art. 4,
 /// 8(6)).
 #[inline]
-fn least_run(kind: Kind, weekly: u32, owed: u32) -> u32
+pub fn least_run(kind: Kind, weekly: u32, owed: u32) -> u32
     ensures { result ≡ least_rest kind weekly owed }
 {
     match kind {

@@ -3,4 +3,4 @@
 
 mod turns;
 
-pub use turns::plan_in_turns;
+pub use turns::TurnPlanner;

@@ -7,7 +7,7 @@ ghost use Rattle.duty_plan.specs.Rounds.{IsAnswer};
 
 use crate::arenas::KeptArena;
 use crate::pricing::Asked;
-use duty_plan::{Case, Gate, Pairs, Priced, Pricer, Prices};
+use duty_plan::{Case, Duty, Gate, Pairs, Priced, Pricer, Prices};
 use duty_pricing::{Scratch, Slot, make_scratch};
 use label_arena::Seat;
 use minute_line::{Many, Memory};
@@ -100,10 +100,10 @@ impl TurnPricer {
 impl Pricer for TurnPricer {
     ghost chunks = { λ pricer. pricer };
 
-    fn round<R: Threads + Sync, G: Gate + Sync>(
+    fn round<R: Threads + Sync>(
         &mut self,
         _rt: &R,
-        _gate: &G,
+        _gate: &(dyn Gate + Sync),
         alloc: Global,
         case: &Case,
         pairs: &Pairs,
@@ -114,5 +114,19 @@ impl Pricer for TurnPricer {
             answers.push(self.price_alone(alloc, case, driver, pairs, prices)?)?;
         }
         Ok(answers)
+    }
+
+    fn guess(
+        &mut self,
+        alloc: Global,
+        case: &Case,
+        _pairs: &Pairs,
+        _prices: &Prices,
+    ) -> Result<Many<Option<Duty>>, Memory> {
+        let mut guesses = Many::new(alloc);
+        for _driver in case.week.drivers.as_slice() {
+            guesses.push(None)?;
+        }
+        Ok(guesses)
     }
 }
