@@ -5,16 +5,18 @@
 
 mod asks;
 mod options;
+mod progress;
 mod running;
 #[cfg(test)]
 mod tests;
 
 use desk_io::{StdSink, StdSource};
 use minute_line::Memory;
+use progress::Progress;
 use running::WANT_OF_MEMORY;
 pub use running::{run_desk, run_gated};
 use std::env;
-use std::io::ErrorKind;
+use std::io::{ErrorKind, IsTerminal};
 use std::process::ExitCode;
 
 /// The words after the program's name; none where the system does not give them as text.
@@ -32,6 +34,15 @@ fn words(rt: &HostRuntime) -> Result<Vec<String>, Memory> {
     Ok(words)
 }
 
+/// What is said while a plan is sought: nothing where standard error is no terminal.
+fn progress(rt: &HostRuntime) -> Option<Progress<'_>> {
+    if rt.stderr().is_terminal() {
+        Progress::begin(rt)
+    } else {
+        None
+    }
+}
+
 fn main(rt: HostRuntime) -> ExitCode {
     let Ok(words) = words(&rt) else {
         return ExitCode::from(WANT_OF_MEMORY);
@@ -44,5 +55,9 @@ fn main(rt: HostRuntime) -> ExitCode {
         inner: rt.stdout(),
         faults: 0,
     };
-    ExitCode::from(run_desk(&rt, rt.alloc(), &words, &mut source, &mut sink))
+    let status = match progress(&rt) {
+        Some(progress) => run_gated(&rt, &progress, rt.alloc(), &words, &mut source, &mut sink),
+        None => run_desk(&rt, rt.alloc(), &words, &mut source, &mut sink),
+    };
+    ExitCode::from(status)
 }
