@@ -35,7 +35,7 @@ fn words(rt: &HostRuntime) -> Result<Vec<String>, Memory> {
 }
 
 /// What is said while a plan is sought: nothing where standard error is no terminal.
-fn progress(rt: &HostRuntime) -> Option<Progress<'_>> {
+fn begun_progress(rt: &HostRuntime) -> Option<Progress<'_>> {
     if rt.stderr().is_terminal() {
         Progress::begin(rt)
     } else {
@@ -55,7 +55,7 @@ fn main(rt: HostRuntime) -> ExitCode {
         inner: rt.stdout(),
         faults: 0,
     };
-    let status = match progress(&rt) {
+    let status = match begun_progress(&rt) {
         Some(progress) => run_gated(&rt, &progress, rt.alloc(), &words, &mut source, &mut sink),
         None => run_desk(&rt, rt.alloc(), &words, &mut source, &mut sink),
     };
