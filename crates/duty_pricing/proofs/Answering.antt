@@ -1,10 +1,14 @@
 -- What the answers of a pricing rest on.
-use Rattle.std.proofs.Common.{◌≡◌, ℕ, ◌<◌, ◌≤◌, List, [], ◌∷◌, length, reverse, refl, ap, sym, subst, ◌∙◌, arith, Option, Some, None, slice_get}
-use Rattle.std.specs.Prelude.{ℤ}
+use Rattle.std.proofs.Common.{◌≡◌, ℕ, ◌<◌, ◌≤◌, List, [], ◌∷◌, length, reverse, refl, ap, sym, subst, ◌∙◌, arith, false, true, is_some, Option, Some, None, slice_get}
+use Rattle.std.specs.Prelude.{ℤ, IfSome}
 use Rattle.std.proofs.lemmas.List.{reverse-reverse, length-reverse}
 use Rattle.duty_plan.specs.declared.duties.Duty.{Duty}
+use Rattle.duty_plan.specs.declared.duties.Step.{Step}
+use Rattle.duty_plan.specs.declared.plans.Case.{Case}
+use Rattle.duty_plan.specs.declared.deciding.Pairs.{Pairs}
+use Rattle.duty_plan.specs.declared.pricing.Prices.{Prices}
 use Rattle.duty_plan.specs.PartialDuties.{PartialDuty, place_after}
-use Rattle.duty_plan.specs.Duties.{IsLawfulPartialDuty, partial_of, open_off_at, capacity_at}
+use Rattle.duty_plan.specs.Duties.{IsCase, IsLawfulPartialDuty, partial_of, open_off_at, capacity_at}
 use Rattle.duty_plan.specs.Values.{HasNoDuty, IsChoice, IsInside, reduced_cost}
 use Rattle.duty_plan.specs.LabelLists.{Entry}
 use Rattle.duty_plan.proofs.Lists.{slice_get-lt}
@@ -29,7 +33,28 @@ some-same a b h = cc
 some-none : {X : Type 0} (a : X) → Some a ≡ None → ⊥
 some-none a h = cc
 
+false-true : false ≡ true → ⊥
+false-true h = cc
+
 -- ---- the answers
+
+-- a duty that the driver may be given has few steps
+pub choice-few : (case : Case) (driver : ℕ) (pairs : Pairs) (steps : List Step) → IsCase case →
+    IsChoice case driver pairs (record { steps = steps }) → length steps ≤ 10080
+choice-few case driver pairs steps is choice =
+    let lawful = choice.lawful.partial in
+    let a = early case.week (open_off_at case driver) (capacity_at case driver) (partial_of (record { steps = steps })) lawful.office in
+    let b = few-steps case.week (open_off_at case driver) (capacity_at case driver) (partial_of (record { steps = steps })) is.week lawful.office in
+    let c = length-reverse steps in
+    omega arith
+
+-- so has the duty that was found, where one was
+pub some-choice : (case : Case) (driver : ℕ) (pairs : Pairs) (prices : Prices) (found : Option ℤ) (steps read : List Step) →
+    IfSome found (IsDutyOf case driver pairs prices steps) → is_some found ≡ true → read ≡ steps →
+    IsChoice case driver pairs (record { steps = read })
+some-choice case driver pairs prices None steps read f some e = absurd (false-true some)
+some-choice case driver pairs prices (Some v) steps read f some e =
+    subst (λ (s : List Step). IsChoice case driver pairs (record { steps = s })) (sym e) f.choice
 
 module _ (asked : Asked) (minute : ℕ) (store : LabelStore) (is : IsAsked asked) (s : IsSearch asked minute store) where
   pub all-parents : HaveParents store.slots
@@ -124,14 +149,7 @@ module _ (asked : Asked) (minute : ℕ) (store : LabelStore) (is : IsAsked asked
   found = subst (λ (b : Option ℕ). IsBest asked (entries_of store.slots) b value) none (s.has_best value known)
 
   pub found-few : length asked.steps.now ≤ 10080
-  found-few =
-      let lawful = found.choice.lawful.partial in
-      let a = early asked.case.now.week (open_off_at asked.case.now asked.driver) (capacity_at asked.case.now asked.driver)
-      (partial_of (record { steps = asked.steps.now })) lawful.office in
-      let b = few-steps asked.case.now.week (open_off_at asked.case.now asked.driver) (capacity_at asked.case.now asked.driver)
-      (partial_of (record { steps = asked.steps.now })) is.is_case.week lawful.office in
-      let c = length-reverse asked.steps.now in
-      omega arith
+  found-few = choice-few asked.case.now asked.driver asked.pairs.now asked.steps.now is.is_case found.choice
 
   pub least-found : ((n : ℕ) → IsDoneAt asked store n) → (new : LabelStore) → new.steps ≡ asked.steps.now →
       HasLeastSteps asked.case.now asked.driver asked.pairs.now asked.prices.now new value

@@ -29,5 +29,5 @@ mod visits;
 
 pub use laws::exhaust;
 pub use pricing::Found;
-pub use scratch::{Scratch, give_back, make_scratch, price_driver};
+pub use scratch::{Scratch, give_back, guess_duty, make_scratch, price_driver};
 pub use slots::Slot;

@@ -1,7 +1,8 @@
 // What the pricing of a driver works with, which is made once, and its calls.
-ghost use Rattle.std.specs.Prelude.{◌≡◌, ◌<◌, ◌≤◌, IfOk, length};
+ghost use Rattle.std.specs.Prelude.{◌≡◌, ◌<◌, ◌≤◌, IfOk, length, true};
 ghost use Rattle.duty_plan.specs.Duties.{IsCase};
-ghost use Rattle.duty_plan.specs.Values.{IsPairs, IsPrices};
+ghost use Rattle.week_book.specs.Weeks.{IsWeek};
+ghost use Rattle.duty_plan.specs.Values.{IsChoice, IsPairs, IsPrices};
 ghost use Rattle.duty_plan.specs.SharedRounds.{IsSeatOf};
 ghost use Rattle.label_arena.specs.Views.{IsNew};
 ghost use Rattle.duty_pricing.specs.Finding.{HasRoom, HoldsScratch, IsEmpty, IsFoundFor, entries_in};
@@ -17,16 +18,20 @@ use crate::stores::LabelStore;
 use duty_beam::{Beam, make_beam};
 use duty_label::{Walks, make_walks};
 use duty_outlook::{Outlook, make_outlook};
-use duty_plan::{Case, Pairs, Prices, Step};
+use duty_plan::{Case, Pair, Pairs, Prices, Step};
 use label_arena::{Round, Seat};
 use minute_line::Memory;
 use std::alloc::Global;
+use week_book::Week;
 
 /// The entries of an outlook, of 272 bytes each.
 const ENTRIES: u32 = 62_000;
 
 /// The labels that the widest search for a good duty goes on with in a quarter of an hour.
 const WIDEST: u32 = 64;
+
+/// The labels that a guess goes on with in a quarter of an hour.
+const GUESSED: u32 = 16;
 
 /// What the pricing of a driver works with: made once, and used for one driver after another. Contracts see its stored labels.
 #[derive(Drop)]
@@ -107,6 +112,55 @@ pub fn price_driver(
         forced,
     };
     scratch.labels.price(&asked, seat)
+}
+
+/// Whether some order isn't Barred for a driver.
+fn may_serve(week: &Week, driver: u32, pairs: &Pairs) -> bool
+    requires week { IsWeek week.now }
+    requires driver { driver < length week.now.drivers }
+    requires pairs { IsPairs week.now pairs.now }
+{
+    for order in 0..week.orders.len() as u32 {
+        match pairs.pair(week, driver, order) {
+            Pair::Free | Pair::Forced => return true,
+            Pair::Barred => {}
+        }
+    }
+    false
+}
+
+/// Seeks a good duty of a driver inside the pairs, by the search for good duties alone, of the second width. Whether one was found:
+/// it is in the scratch's steps then. It draws no chunk.
+pub fn guess_duty(
+    case: &Case,
+    driver: u32,
+    pairs: &Pairs,
+    prices: &Prices,
+    scratch: &mut Scratch,
+) -> bool
+    requires case { IsCase case.now }
+    requires driver { driver < length case.now.week.drivers }
+    requires pairs { IsPairs case.now.week pairs.now }
+    requires prices { IsPrices case.now.week prices.now }
+    requires empty { IsEmpty scratch.old }
+    ensures duty { result ≡ true → IsChoice case.now driver pairs.now (record { steps = scratch.new.labels.steps }) }
+    ensures empty { IsEmpty scratch.new }
+{
+    let widest = if may_serve(&case.week, driver, pairs) {
+        scratch.walks.fill(&case.week);
+        scratch.outlook.fill(case, driver, pairs, prices);
+        GUESSED
+    } else {
+        0
+    };
+    let found = scratch
+        .beam
+        .find(case, driver, pairs, prices, &scratch.outlook, widest);
+    if found.is_none() {
+        return false;
+    }
+    scratch.labels.steps.copy(scratch.beam.steps());
+    true
 }
 
 /// Gives the chunks that a seat holds back to the round, and empties the scratch that has them. Its steps stay.
