@@ -56,7 +56,7 @@ impl LabelStore {
     }
 
     /// Whether a slot of that number or a later one betters a label, for a driver with these forced orders, where orders out of
-    /// reach are ignored. Orders are given as bits.
+    /// reach are ignored. Orders are given as bits. The last hours come first: what betters a label mostly ends shortly before it.
     pub(crate) fn bettered(&self, label: &Label, from: u32, forced: u128, reach: u128) -> bool
         requires chained { AreChained self.now.minutes.items self.now.cells.items self.now.slots }
         requires days { HaveDays self.now.slots }
@@ -66,7 +66,7 @@ impl LabelStore {
         ensures some { result ≡ true → (n : ℕ) × (slot : Slot) × (from ≤ n) × (slice_get self.now.slots n ≡ Some slot) × DominatesWithin slot.label label.now forced reach }
         ensures none { result ≡ false → (n : ℕ) (slot : Slot) → from ≤ n → slice_get self.now.slots n ≡ Some slot → DominatesWithin slot.label label.now forced reach → ⊥ }
     {
-        for hour in first_hour(label)..label.clock.at / 60 + 1 {
+        for hour in (first_hour(label)..label.clock.at / 60 + 1).rev() {
             if self.bettered_in(cell(label.place, hour), label, from, forced, reach) {
                 return true;
             }
