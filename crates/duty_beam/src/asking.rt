@@ -1,16 +1,18 @@
 // What a good duty is asked for.
 ghost use Rattle.duty_beam.specs.Asking.{IsAsked};
 
+use duty_label::Walks;
 use duty_outlook::Outlook;
 use duty_plan::{Case, Pair, Pairs, Prices};
 
-/// A driver of a case, what is decided of orders, their prices, and what half-made duties may still save.
+/// A driver of a case, what is decided of orders, their prices, the walks of the week, and what half-made duties may still save.
 #[derive(Clone, Copy)]
 pub(crate) struct Asked<'a> {
     pub(crate) case: &'a Case,
     pub(crate) driver: u32,
     pub(crate) pairs: &'a Pairs,
     pub(crate) prices: &'a Prices,
+    pub(crate) walks: &'a Walks,
     pub(crate) outlook: &'a Outlook,
 }
 

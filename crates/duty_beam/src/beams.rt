@@ -8,7 +8,7 @@ use crate::asking::Asked;
 use crate::confirming::value_of;
 use crate::nodes::make_nodes;
 use crate::searches::Search;
-use duty_label::first;
+use duty_label::{Walks, first};
 use duty_outlook::Outlook;
 use duty_plan::{Case, Pairs, Prices, Step};
 use minute_line::{Memory, WEEK_MINUTES};
@@ -113,14 +113,15 @@ impl Beam {
 
     /// Seeks a good duty of a driver at these pairs and prices, with beams of 4, 16 and 64 as far as they are no wider than asked.
     ///
-    /// The value of the duty, its cost less the prices of its orders in cents, where one was found. It takes no memory. The outlook is
-    /// the driver's at these pairs and prices, else fewer duties may be found.
+    /// The value of the duty, its cost less the prices of its orders in cents, where one was found. It takes no memory. The walks are
+    /// those of the week, and the outlook is the driver's at these pairs and prices, else fewer duties may be found.
     pub fn find(
         &mut self,
         case: &Case,
         driver: u32,
         pairs: &Pairs,
         prices: &Prices,
+        walks: &Walks,
         outlook: &Outlook,
         widest: u32,
     ) -> Option<i64>
@@ -135,6 +136,7 @@ impl Beam {
             driver,
             pairs,
             prices,
+            walks,
             outlook,
         };
         self.steps.clear();

@@ -38,17 +38,25 @@ impl Nodes {
         false
     }
 
+    /// Whether a label betters a node that was not gone on with.
+    fn is_worse(&self, number: u32, label: &Label, forced: u128) -> bool {
+        match self.nodes.get(number as usize) {
+            Some(node) => !node.is_extended && better(label, &node.label, forced),
+            None => false,
+        }
+    }
+
     /// Gives up a node that a label betters, if it was not gone on with.
     fn give_up(&mut self, number: u32, label: &Label, forced: u128)
         ensures { (case : Case) (driver : ℕ) (prices : Prices) → AreLabels case driver prices self.old →
             AreLabels case driver prices self.new }
     {
+        if !self.is_worse(number, label, forced) {
+            return;
+        }
         let Some(mut node) = self.get(number) else {
             return;
         };
-        if node.is_extended || !better(label, &node.label, forced) {
-            return;
-        }
         node.bound = i64::MAX;
         self.put(number, node);
     }
@@ -96,6 +104,14 @@ impl Nodes {
         Some(number)
     }
 
+    /// Whether a node ranks before another or as high.
+    fn ranks_before(&self, number: u32, other: &Node) -> bool {
+        match self.nodes.get(number as usize) {
+            Some(node) => node.rank() <= other.rank(),
+            None => false,
+        }
+    }
+
     /// Puts a node into a bucket that has fewer nodes than the beam is wide, or in the place of one that it ranks before.
     fn insert(&mut self, bucket: usize, node: Node, width: u32)
         ensures { (case : Case) (driver : ℕ) (prices : Prices) → AreLabels case driver prices self.old →
@@ -108,10 +124,7 @@ impl Nodes {
         let Some(number) = self.outermost(bucket, false) else {
             return;
         };
-        let Some(last) = self.get(number) else {
-            return;
-        };
-        if last.rank() <= node.rank() {
+        if self.ranks_before(number, &node) {
             return;
         }
         self.put(number, node);

@@ -42,8 +42,24 @@ impl Search {
         }
     }
 
+    /// Whether no duty that serves the Forced orders begins so, since one of them can't be reached any more.
+    fn is_lost(&self, asked: &Asked, label: &Label) -> bool
+        requires { IsAsked asked.now }
+    {
+        self.forced != 0
+            && asked.walks.hopeless(
+                asked.case,
+                asked.driver,
+                asked.pairs,
+                asked.prices,
+                label,
+                None,
+            )
+    }
+
     /// Notes the label of a step after a node, of which so much may still be saved.
     fn note(&mut self, asked: &Asked, from: &Origin, step: Step, label: Label, gain: i64)
+        requires asked { IsAsked asked.now }
         requires label { IsLabelOfSome asked.now.case.now asked.now.driver asked.now.prices.now label }
         requires nodes { AreLabels asked.now.case.now asked.now.driver asked.now.prices.now self.old.nodes }
         ensures { AreLabels asked.now.case.now asked.now.driver asked.now.prices.now self.new.nodes }
@@ -56,7 +72,7 @@ impl Search {
             bound: label.value.saturating_sub(gain),
             is_extended: false,
         };
-        if node.bound >= self.known {
+        if node.bound >= self.known || self.is_lost(asked, &node.label) {
             return;
         }
         self.nodes.keep(node, self.width, self.forced);

@@ -8,6 +8,7 @@ ghost use Rattle.duty_plan.specs.Duties.{IsCase, price_of, price_or_none};
 ghost use Rattle.duty_plan.specs.Values.{IsPairs, IsPrices};
 
 use crate::make_beam;
+use duty_label::make_walks;
 use duty_outlook::{Outlook, make_outlook};
 use duty_plan::{Act, Case, Pair, Pairs, Prices};
 use minute_line::{History, Line, Many, Memory, Monday, Name, read_monday};
@@ -160,7 +161,17 @@ fn found(
     requires prices { IsPrices desk.now.case.week desk.now.prices }
 {
     let mut beam = make_beam(alloc)?;
-    let value = beam.find(&desk.case, 0, &desk.pairs, &desk.prices, outlook, widest);
+    let mut walks = make_walks(alloc)?;
+    walks.fill(&desk.case.week);
+    let value = beam.find(
+        &desk.case,
+        0,
+        &desk.pairs,
+        &desk.prices,
+        &walks,
+        outlook,
+        widest,
+    );
     let mut acts = Many::new(alloc);
     for step in beam.steps() {
         acts.push(step.act)?;

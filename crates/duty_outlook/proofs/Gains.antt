@@ -1,5 +1,5 @@
 -- What a row says of a label.
-use Rattle.std.proofs.Common.{◌≡◌, ◌⊎◌, inl, inr, ℕ, ◌+◌, ◌*◌, ◌^◌, ◌≤◌, ◌<◌, ◌||◌, min, Bool, true, false, cond, List, refl, ap, sym, subst, ◌∙◌, arith, eqb, ℤ}
+use Rattle.std.proofs.Common.{◌≡◌, ◌⊎◌, inl, inr, ℕ, ◌+◌, ◌*◌, ◌^◌, ◌≤◌, ◌<◌, ◌||◌, min, Bool, true, false, cond, refl, ap, sym, subst, ◌∙◌, arith, eqb, ℤ}
 use Rattle.std.proofs.Common.{to_z, of_z, w64}
 use Rattle.std.specs.Prelude.{bit_or}
 use Rattle.std.specs.Int.{bit_at}
@@ -18,8 +18,7 @@ use Rattle.duty_plan.proofs.Bits.{served_bits}
 use Rattle.duty_outlook.specs.declared.outlooks.Outlook.{Outlook}
 use Rattle.duty_outlook.specs.Timetables.{load_after, done_after}
 use Rattle.duty_outlook.specs.Covering.{AreDone, Covers, is_barred_for}
-use Rattle.duty_outlook.specs.Rows.{number_at}
-use Rattle.duty_outlook.specs.Outlooks.{CoversRow, cents_of}
+use Rattle.duty_outlook.specs.Outlooks.{cents_of}
 use Rattle.duty_outlook.specs.Laws.{IsGain, IsNoSooner, IsOutlookOf}
 use Rattle.duty_outlook.proofs.Steps.{covers-up, covers-all}
 use Rattle.duty_outlook.proofs.Ways.{has_timetable, load-loaded, load-empty, done-partial}
@@ -96,18 +95,17 @@ done-later barred partial later orders more d order e =
 
 -- what is read of a row for a label is a gain, also of steps that end there no sooner
 pub label-gain-later : (case : Case) (driver : ℕ) (pairs : Pairs) (prices : Prices) (outlook : Outlook) (label : Label) (partial later : PartialDuty)
-    (load level number : ℕ) (row : List ℕ) → IsOutlookOf case driver pairs prices outlook → IsLabelOf case driver prices label partial →
+    (load level n number : ℕ) → IsOutlookOf case driver pairs prices outlook → IsLabelOf case driver prices label partial →
     IsNoSooner case driver prices partial later → load ≡ cond label.loaded label.used (outlook.scale.capacity + 1) →
-    level * outlook.scale.unit ≤ load → level < 32 → CoversRow case.week outlook.scale.capacity outlook.scale.unit prices
-    (record { place = label.place; minute = label.clock.at; orders = bit_or label.served outlook.barred }) row →
-    number ≡ min (number_at row level) 4000000000000 → IsGain case driver pairs prices later (cents_of number)
-label-gain-later case driver pairs prices outlook label partial later load level number row o l s a low few c e =
+    level * outlook.scale.unit ≤ load → Covers case.week outlook.scale.capacity prices (bit_or label.served outlook.barred) label.place label.clock.at
+    (level * outlook.scale.unit) (cents_of n) → number ≡ min n 4000000000000 → IsGain case driver pairs prices later (cents_of number)
+label-gain-later case driver pairs prices outlook label partial later load level n number o l s a low c e =
     let kg : load ≡ cond label.loaded label.used (capacity_at case driver + 1) = rw o.capacity at a in
     let carried = label-load case driver partial label.loaded label.used load l.loaded l.used kg in
     covers-gain case driver pairs prices later (bit_or label.served outlook.barred) label.place label.clock.at (level * outlook.scale.unit)
     (cents_of number)
     (limited case driver pairs prices outlook (bit_or label.served outlook.barred) label.place label.clock.at (level * outlook.scale.unit)
-    (number_at row level) number o e (c.each level few))
+    n number o e c)
     (done-later (is_barred_for case.week pairs driver) partial later (bit_or label.served outlook.barred) s.orders
     (label-done (is_barred_for case.week pairs driver) partial label.served outlook.barred l.served o.barred)) (l.place ∙ sym s.place)
     (omega (arith, l.clock.at, s.late)) (omega (arith, low, carried, s.load))

@@ -1,12 +1,10 @@
 -- What is raised to what an act brings admits the act.
-use Rattle.std.proofs.Common.{◌≡◌, inl, inr, ℕ, ◌+◌, ◌-◌, ◌*◌, ◌/◌, ◌^◌, ◌≤◌, ◌<◌, Bool, true, false, ◌&&◌, eqb, List, [], ◌∷◌, length, All, refl, ap, sym, subst, ◌∙◌, arith, ℤ, ◌-ℤ◌, ◌≤ℤ◌, Option, Some, None, is_some, find, get_or}
-use Rattle.std.specs.List.{Contains}
+use Rattle.std.proofs.Common.{◌≡◌, inl, inr, ℕ, ◌+◌, ◌-◌, ◌*◌, ◌/◌, ◌^◌, ◌≤◌, ◌<◌, Bool, true, false, ◌&&◌, eqb, List, [], ◌∷◌, length, All, refl, ap, sym, subst, ◌∙◌, arith, ℤ, ◌-ℤ◌, ◌≤ℤ◌, Option, Some, None, is_some, find}
 use Rattle.std.specs.Prelude.{bit_or}
 use Rattle.std.proofs.lemmas.Bool.{leb-true, eqb-true, and_parts, cases_eq, cases_lt}
 use Rattle.std.proofs.lemmas.Int.{ints}
 use Rattle.std.proofs.Math.Nat.{add-mul, div-mul-le_self, lt_of_mul-lt-mul_right}
 use Rattle.std.proofs.lemmas.Nat.{le-div}
-use Rattle.std.proofs.lemmas.List.{get_or_past}
 use Rattle.std.proofs.lemmas.Option.{slice_get_past}
 use Rattle.week_book.specs.declared.weeks.Leg.{Leg as Road}
 use Rattle.week_book.specs.declared.weeks.Order.{Order}

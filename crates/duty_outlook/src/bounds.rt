@@ -133,12 +133,13 @@ impl Outlook {
             IsOutlookOf case driver pairs prices self.now → IsLabelOf case driver prices label.now partial →
             IsNoSooner case driver prices partial later → IsGain case driver pairs prices later result }
     {
-        let row = self.row_at(Spot {
+        let spot = Spot {
             place: label.place,
             minute: label.clock.at,
             orders: label.served | self.barred,
-        });
-        cents_of(row[self.level(self.load(label))].min(LIMIT))
+        };
+        let level = self.level(self.load(label));
+        cents_of(self.number_at(spot, level).min(LIMIT))
     }
 
     /// Whether no lawful duty inside the pairs that begins with the label's steps, or with steps that end there no sooner, has a

@@ -61,7 +61,8 @@ fn full() -> [u64; 32]
 }
 
 impl Outlook {
-    ghost use Rattle.duty_outlook.specs.Outlooks.{CoversRow, IsFilled};
+    ghost use Rattle.duty_outlook.specs.Covering.{Covers};
+    ghost use Rattle.duty_outlook.specs.Outlooks.{CoversRow, IsFilled, cents_of};
 
     /// Where the entry of a spot lies while the outlook is filled at about its minute.
     pub(crate) fn ring_slot(&self, spot: Spot) -> usize {
@@ -101,6 +102,21 @@ impl Outlook {
             Some(entry) if entry.spot.minute == spot.minute => slot,
             _ => self.kept_slot(spot),
         }
+    }
+
+    /// A number for the spot at a level of load.
+    pub(crate) fn number_at(&self, spot: Spot, level: usize) -> u64
+        requires { level < 32 }
+        ensures { (week : Week) (prices : Prices) → IsFilled week prices self.now →
+            Covers week self.now.scale.capacity prices spot.orders spot.place spot.minute (level * self.now.scale.unit) (cents_of result) }
+    {
+        let Some(entry) = self.entries.get(self.slot(spot)) else {
+            return LIMIT;
+        };
+        if !entry.spot.is_within(spot) {
+            return LIMIT;
+        }
+        entry.numbers[level]
     }
 
     /// A row for the spot.

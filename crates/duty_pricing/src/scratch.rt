@@ -96,9 +96,15 @@ pub fn price_driver(
     scratch.outlook.fill(case, driver, pairs, prices);
     let forced = forced(case, driver, pairs);
     let widest = widest_for(forced, scratch.walks.reached(&case.week, 0, 0));
-    let found = scratch
-        .beam
-        .find(case, driver, pairs, prices, &scratch.outlook, widest);
+    let found = scratch.beam.find(
+        case,
+        driver,
+        pairs,
+        prices,
+        &scratch.walks,
+        &scratch.outlook,
+        widest,
+    );
     let asked = Asked {
         case,
         driver,
@@ -153,9 +159,15 @@ pub fn guess_duty(
     } else {
         0
     };
-    let found = scratch
-        .beam
-        .find(case, driver, pairs, prices, &scratch.outlook, widest);
+    let found = scratch.beam.find(
+        case,
+        driver,
+        pairs,
+        prices,
+        &scratch.walks,
+        &scratch.outlook,
+        widest,
+    );
     if found.is_none() {
         return false;
     }

@@ -6,12 +6,11 @@ pub returns : goal.returns
 returns c = record {
   gain = λ case driver pairs prices partial o l.
       cast-gain case driver pairs prices partial _ c.min.result c.cents_of.result c.min.ensures c.cents_of.ensures
-      (label-gain-later case driver pairs prices c.args.self.now c.args.label.now partial partial c.load.result c.level.result c.min.result
-      c.row_at-row.result o l (no-sooner case driver prices partial) c.load.ensures c.level.ensures.low c.level.ensures.few
-      (c.row_at-row.ensures case.week prices o.filled) c.min.ensures);
+      (label-gain-later case driver pairs prices c.args.self.now c.args.label.now partial partial c.load.result c.level-level.result c.number_at.result
+      c.min.result o l (no-sooner case driver prices partial) c.load.ensures c.level-level.ensures.low (c.number_at.ensures case.week prices o.filled)
+      c.min.ensures);
   later = λ case driver pairs prices partial later o l s.
       cast-gain case driver pairs prices later _ c.min.result c.cents_of.result c.min.ensures c.cents_of.ensures
-      (label-gain-later case driver pairs prices c.args.self.now c.args.label.now partial later c.load.result c.level.result c.min.result
-      c.row_at-row.result o l s c.load.ensures c.level.ensures.low c.level.ensures.few (c.row_at-row.ensures case.week prices o.filled)
-      c.min.ensures);
+      (label-gain-later case driver pairs prices c.args.self.now c.args.label.now partial later c.load.result c.level-level.result c.number_at.result
+      c.min.result o l s c.load.ensures c.level-level.ensures.low (c.number_at.ensures case.week prices o.filled) c.min.ensures);
 }
