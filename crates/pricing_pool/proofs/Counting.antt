@@ -1,5 +1,5 @@
 -- Drawn numbers, counted over the seats of a list or over the numbers below its length.
-use Rattle.std.proofs.Common.{◌≡◌, ℕ, zero, suc, ◌+◌, ◌<◌, cond, ltb, List, [], ◌∷◌, length, refl, ap, ◌∙◌, arith, Option, Some, None, slice_get}
+use Rattle.std.proofs.Common.{◌≡◌, ℕ, zero, suc, ◌+◌, ◌<◌, cond, ltb, List, [], ◌∷◌, ◌++◌, length, refl, ap, ◌∙◌, arith, Option, Some, None, slice_get}
 use Rattle.label_arena.specs.Counting.{times as times_of_seat, total}
 use Rattle.duty_plan.specs.Duties.{times}
 use Rattle.duty_plan.specs.Sums.{total_below}
@@ -26,3 +26,8 @@ first-below f (suc n) = omega (arith, first-below f n)
 pub total-below : {X : Type 0} (f : X → ℕ) (xs : List X) → total_below (λ k. or_zero f (slice_get xs k)) (length xs) ≡ total f xs
 total-below f [] = refl
 total-below f (x ∷ xs) = omega (arith, first-below (λ k. or_zero f (slice_get (x ∷ xs) k)) (length xs), total-below f xs)
+
+-- one element more in the sum
+pub total-push : {X : Type 0} (f : X → ℕ) (xs : List X) (x : X) → total f (xs ++ x ∷ []) ≡ total f xs + f x
+total-push f [] x = omega arith
+total-push f (y ∷ ys) x = omega (arith, total-push f ys x)

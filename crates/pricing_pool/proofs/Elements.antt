@@ -1,5 +1,7 @@
 -- Facts on each element of a list, by its place.
-use Rattle.std.proofs.Common.{◌≡◌, All, ℕ, zero, suc, ◌+◌, ◌<◌, List, [], ◌∷◌, ◌++◌, length, ap, ◌∙◌, subst, arith, length-append, Option, Some, None, slice_get}
+use Rattle.std.proofs.Common.{◌≡◌, All, ℕ, zero, suc, ◌+◌, ◌<◌, List, [], ◌∷◌, ◌++◌, length, ap, ◌∙◌, subst, arith, length-append, refl, get_or, Option, Some, None, slice_get}
+use Rattle.std.proofs.Math.ListN.{get_or-append}
+use Rattle.std.proofs.Math.Seq.{get_or-append_seam}
 use Rattle.duty_plan.specs.Duties.{EachOf}
 
 pub some-same : {X : Type 0} (a b : X) → Some a ≡ Some b → a ≡ b
@@ -20,3 +22,23 @@ last-alone (z ∷ zs) x ys is one = absurd (let long = ap (λ w. length w) is �
 -- what holds of all holds of the only one
 pub all-only : {X : Type 0} (P : X → Type 0) (xs : List X) (x : X) → xs ≡ x ∷ [] → All P xs → P x
 all-only P xs x is all = let one = subst (All P) is all in one 0 x (omega arith)
+
+-- what holds of all but the last, and of the last
+pub all-front : {X : Type 0} (P : X → Type 0) (xs : List X) (x : X) → All P (xs ++ x ∷ []) → All P xs
+all-front P xs x all k d l =
+    subst P (get_or-append xs (x ∷ []) d k l) (all k d (omega (arith, length-append xs (x ∷ []))))
+
+pub all-last : {X : Type 0} (P : X → Type 0) (xs : List X) (x : X) → All P (xs ++ x ∷ []) → P x
+all-last P xs x all =
+    subst P (get_or-append_seam xs x [] x) (all (length xs) x (omega (arith, length-append xs (x ∷ []))))
+
+-- an element by its place, with some other one past the end
+pub got-at : {X : Type 0} (xs : List X) (n : ℕ) (x d : X) → slice_get xs n ≡ Some x → get_or xs n d ≡ x
+got-at [] n x d h = cc
+got-at (y ∷ ys) zero x d h = some-same y x h
+got-at (y ∷ ys) (suc n) x d h = got-at ys n x d h
+
+pub get-at : {X : Type 0} (xs : List X) (n : ℕ) (d : X) → n < length xs → slice_get xs n ≡ Some (get_or xs n d)
+get-at [] n d l = absurd (omega arith)
+get-at (y ∷ ys) zero d l = refl
+get-at (y ∷ ys) (suc n) d l = get-at ys n d (omega arith)

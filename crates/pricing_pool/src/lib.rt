@@ -3,7 +3,10 @@
 #![tactic(auto)]
 
 mod arenas;
+mod copying;
+mod guesses;
 mod pricing;
 mod turns;
+mod twins;
 
 pub use turns::{TurnPricer, make_turns};

@@ -1,12 +1,16 @@
 // One driver after another, each with the whole arena.
 ghost use Rattle.std.specs.Prelude.{◌≡◌, ◌≤◌, ◌<◌, [], ◌∷◌, length, IfOk};
-ghost use Rattle.duty_plan.specs.Duties.{IsCase};
+ghost use Rattle.duty_plan.specs.Duties.{EachOf, IsCase};
 ghost use Rattle.duty_plan.specs.Values.{IsPairs, IsPrices};
 ghost use Rattle.duty_plan.specs.LabelLists.{chunks_for};
 ghost use Rattle.duty_plan.specs.Rounds.{IsAnswer};
+ghost use Rattle.duty_plan.specs.Twins.{AreTwins};
 
 use crate::arenas::KeptArena;
+use crate::copying::copy_answer;
+use crate::guesses::guess_all;
 use crate::pricing::Asked;
+use crate::twins::classes;
 use duty_plan::{Case, Duty, Gate, Pairs, Priced, Pricer, Prices};
 use duty_pricing::{Scratch, Slot, make_scratch};
 use label_arena::Seat;
@@ -95,6 +99,32 @@ impl TurnPricer {
         self.arena.put(round.close(alloc, ended)?);
         answer
     }
+
+    /// The answer for a driver: once more that of the twin who stands for him, where it is among the answers so far.
+    fn answer_in_turn(
+        &mut self,
+        alloc: Global,
+        case: &Case,
+        class: u32,
+        driver: u32,
+        pairs: &Pairs,
+        prices: &Prices,
+        answers: &[Priced],
+    ) -> Result<Priced, Memory>
+        requires case { IsCase case.now }
+        requires twin { AreTwins case.now pairs.now class driver }
+        requires driver { driver < length case.now.week.drivers }
+        requires pairs { IsPairs case.now.week pairs.now }
+        requires prices { IsPrices case.now.week prices.now }
+        requires answers { EachOf (IsAnswer self.old case.now pairs.now prices.now) answers.now }
+        ensures answer { IfOk result (IsAnswer self.old case.now pairs.now prices.now driver) }
+        ensures chunks { self.new ≡ self.old }
+    {
+        match answers.get(class as usize) {
+            Some(answer) => copy_answer(alloc, answer),
+            None => self.price_alone(alloc, case, driver, pairs, prices),
+        }
+    }
 }
 
 impl Pricer for TurnPricer {
@@ -109,9 +139,13 @@ impl Pricer for TurnPricer {
         pairs: &Pairs,
         prices: &Prices,
     ) -> Result<Many<Priced>, Memory> {
+        let classes = classes(alloc, case, pairs)?;
         let mut answers = Many::new(alloc);
         'pricing: for driver in 0..case.week.drivers.len() as u32 {
-            answers.push(self.price_alone(alloc, case, driver, pairs, prices)?)?;
+            let class = classes[driver as usize];
+            let earlier = answers.as_slice();
+            let answer = self.answer_in_turn(alloc, case, class, driver, pairs, prices, earlier)?;
+            answers.push(answer)?;
         }
         Ok(answers)
     }
@@ -120,13 +154,9 @@ impl Pricer for TurnPricer {
         &mut self,
         alloc: Global,
         case: &Case,
-        _pairs: &Pairs,
-        _prices: &Prices,
+        pairs: &Pairs,
+        prices: &Prices,
     ) -> Result<Many<Option<Duty>>, Memory> {
-        let mut guesses = Many::new(alloc);
-        for _driver in case.week.drivers.as_slice() {
-            guesses.push(None)?;
-        }
-        Ok(guesses)
+        guess_all(alloc, case, pairs, prices, &mut self.scratch)
     }
 }
