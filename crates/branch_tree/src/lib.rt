@@ -6,6 +6,7 @@ mod answers;
 mod children;
 mod choosing;
 mod ending;
+mod improving;
 mod keeping;
 mod laws;
 mod leaves;
@@ -13,8 +14,6 @@ mod pairing;
 mod rounds;
 mod searching;
 mod taking;
-#[cfg(test)]
-mod tests;
 
 pub use laws::{
     branching_grows, forces_once, grown_is_right, growth_lasts, keeps_runs, no_cheaper, paths_last,

@@ -11,6 +11,7 @@ ghost use Rattle.branch_tree.specs.Searching.{IsRootStart};
 use crate::children::children;
 use crate::choosing::next_node;
 use crate::ending::{finish, turned_node};
+use crate::improving::improve_open;
 use crate::keeping::first_kept;
 use crate::pairing::pairs_under;
 use crate::rounds::{Task, run_node};
@@ -34,7 +35,8 @@ fn root_start(alloc: Global, week: &Week) -> Result<NodeStart, Memory>
 }
 
 /// Searches for a cheap plan of the case, within the limits: a lawful plan at its cost, a bound that no lawful plan beats,
-/// and the tree that shows it. Limits with nodes and labels enough for every tree and pricing leave the cost proved.
+/// and the tree that shows it. Where the tree is left with an open leaf, the pricer's guesses make the plan cheaper at the
+/// end. Limits with nodes and labels enough for every tree and pricing leave the cost proved.
 pub fn search<R: Threads + Sync, P: Pricer>(
     rt: &R,
     gate: &(dyn Gate + Sync),
@@ -85,5 +87,6 @@ pub fn search<R: Threads + Sync, P: Pricer>(
         counts.push(one.counts)?;
         counts.push(two.counts)?;
     }
-    finish(alloc, kept, tree.as_slice())
+    let better = improve_open(alloc, case, pricer, tree.as_slice(), kept)?;
+    finish(alloc, better, tree.as_slice())
 }

@@ -5,7 +5,7 @@ use Rattle.branch_tree.specs.Growth.{branched_at}
 use Rattle.branch_tree.specs.Searching.{IsSearching, IsNextNode, HasNoNext}
 use Rattle.branch_tree.proofs.Branchings.{root-searching}
 use Rattle.branch_tree.proofs.Reached.{reach-result}
-use Rattle.branch_tree.proofs.SearchFacts.{earlier, all-priced, all-counted, moved, next-moved, in-tree, pushed, right-result, written}
+use Rattle.branch_tree.proofs.SearchFacts.{at-lower-cost, earlier, all-priced, all-counted, moved, next-moved, in-tree, pushed, right-result, written}
 use Rattle.branch_tree.proofs.searching.search.Goals as goal
 
 pub loop-task-init : goal.loop-task-init
@@ -94,14 +94,25 @@ returns-in_default-clause-proved g c =
     reach-result c.args.case.now c.args.limits.now c.loop-task.kept.plan c.loop-task.kept.cost c.loop-task.tree c.as_slice-in_default.result.now c.loop-task.counts c.finish.result
     c.loop-task.invariant.going c.as_slice-in_default.ensures (inl none) c.finish.ensures
 
+pub improve_open-requires-clause-few : goal.improve_open-requires-clause-few
+improve_open-requires-clause-few g c =
+    omega (arith, ap length c.as_slice-2.ensures, c.loop-task.invariant.going.growing.few, c.requires.limits.nodes.1)
+
+pub improve_open-requires-clause-kept : goal.improve_open-requires-clause-kept
+improve_open-requires-clause-kept g c = c.loop-task.invariant.going.kept
+
 pub returns-clause-right : goal.returns-clause-right
 returns-clause-right g c =
     let full : c.args.limits.now.nodes ≤ length c.loop-task.tree + 1 = omega (arith, c.len.ensures, c.loop-task-test.false) in
-    right-result c.args.case.now c.args.limits.now c.loop-task.kept.plan c.loop-task.kept.cost c.loop-task.tree c.as_slice-2.result.now c.loop-task.counts c.finish-2.result
-    c.loop-task.invariant.going c.as_slice-2.ensures (inr full) c.finish-2.ensures
+    let cheaper = at-lower-cost c.args.case.now c.args.limits.now c.loop-task.kept.plan c.in_ok-better.better.plan c.loop-task.kept.cost c.in_ok-better.better.cost c.loop-task.tree
+    c.loop-task.counts c.loop-task.invariant.going c.in_ok-better.ensures.kept c.in_ok-better.ensures.falls in
+    right-result c.args.case.now c.args.limits.now c.in_ok-better.better.plan c.in_ok-better.better.cost c.loop-task.tree c.as_slice-3.result.now c.loop-task.counts c.finish-2.result
+    cheaper c.as_slice-3.ensures (inr full) c.finish-2.ensures
 
 pub returns-clause-proved : goal.returns-clause-proved
 returns-clause-proved g c =
     let full : c.args.limits.now.nodes ≤ length c.loop-task.tree + 1 = omega (arith, c.len.ensures, c.loop-task-test.false) in
-    reach-result c.args.case.now c.args.limits.now c.loop-task.kept.plan c.loop-task.kept.cost c.loop-task.tree c.as_slice-2.result.now c.loop-task.counts c.finish-2.result
-    c.loop-task.invariant.going c.as_slice-2.ensures (inr full) c.finish-2.ensures
+    let cheaper = at-lower-cost c.args.case.now c.args.limits.now c.loop-task.kept.plan c.in_ok-better.better.plan c.loop-task.kept.cost c.in_ok-better.better.cost c.loop-task.tree
+    c.loop-task.counts c.loop-task.invariant.going c.in_ok-better.ensures.kept c.in_ok-better.ensures.falls in
+    reach-result c.args.case.now c.args.limits.now c.in_ok-better.better.plan c.in_ok-better.better.cost c.loop-task.tree c.as_slice-3.result.now c.loop-task.counts c.finish-2.result
+    cheaper c.as_slice-3.ensures (inr full) c.finish-2.ensures

@@ -6,7 +6,7 @@ ghost use Rattle.week_book.specs.Texts.{is_planned, each_row, begins_with_week, 
 ghost use Rattle.duty_plan.specs.Duties.{IsCase};
 ghost use Rattle.branch_tree.specs.Paths.{HasEarlierParents};
 
-use crate::{pairs_of, search};
+use branch_tree::{pairs_of, search};
 use duty_plan::{
     Case, Decision, Duty, Gate, Limits, Node, NodeState, Pair, Pairs, Priced, Pricer, Prices,
     State, Straight,

@@ -2,7 +2,7 @@ use Rattle.std.proofs.Common.{◌≡◌, ℕ, zero, suc, ◌<◌, List, [], ◌�
 use Rattle.duty_plan.specs.declared.nodes.Node.{Node}
 use Rattle.duty_plan.specs.Nodes.{IsNode}
 use Rattle.branch_tree.specs.Paths.{HasEarlierParents}
-use Rattle.branch_tree.proofs.tests.tree.Goals as goal
+use Rattle.search_tests.proofs.tests.tree.Goals as goal
 
 three : (a b c : Node) → a.parent ≡ 0 → b.parent ≡ 1 → c.parent ≡ 2 → HasEarlierParents (a ∷ b ∷ c ∷ [])
 three a b c pa pb pc zero node is = absurd (omega (arith, is.0))

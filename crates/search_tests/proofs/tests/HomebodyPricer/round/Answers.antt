@@ -2,7 +2,7 @@ use Rattle.std.proofs.Common.{◌≡◌, List, length, rules, subst, sym}
 use Rattle.duty_plan.specs.declared.pricing.Priced.{Priced}
 use Rattle.duty_plan.specs.Rounds.{IsRound}
 use Rattle.duty_plan.proofs.Home.{home_round}
-use Rattle.branch_tree.proofs.tests.HomebodyPricer.round.Goals as goal
+use Rattle.search_tests.proofs.tests.HomebodyPricer.round.Goals as goal
 
 pub returns-clause-round : goal.returns-clause-round
 returns-clause-round g c =
