@@ -18,7 +18,7 @@ use Rattle.duty_plan.specs.Nodes.{IsNode, path_of}
 use Rattle.duty_plan.specs.Trees.{IsRight}
 use Rattle.duty_plan.specs.Values.{ArePairsOf}
 use Rattle.desk_csv.specs.declared.errors.Form.TheVariants as form
-use Rattle.desk_report.specs.Reports.{IsReportOf}
+use Rattle.desk_report.specs.Reports.{IsBodyOf}
 use Rattle.desk_core.specs.declared.refusals.Refusal.TheVariants.{Long}
 use Rattle.desk_core.specs.Refusing.{rows_said}
 use Rattle.desk_core.specs.Planning.{case_said}
@@ -102,7 +102,7 @@ pub record IsPlanned (limits : Limits) (left rest held holds : Option (List ℕ)
   pub valid : IsCase case
   pub outcome : Outcome
   pub report : List ℕ
-  pub reports : IsReportOf case outcome report
+  pub reports : IsBodyOf case outcome report
   pub printed : Takes held report holds
   pub lawful : IsLawfulPlan case outcome.plan
   pub cost : cost_of_plan case outcome.plan ≡ outcome.cost

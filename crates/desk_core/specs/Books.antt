@@ -5,7 +5,7 @@ use Rattle.duty_plan.specs.Duties.{IsCase}
 use Rattle.duty_plan.specs.declared.outcomes.Limits.{Limits}
 use Rattle.duty_plan.specs.declared.outcomes.Outcome.{Outcome}
 use Rattle.duty_plan.specs.Trees.{IsRight}
-use Rattle.desk_report.specs.Reports.{IsReportOf}
+use Rattle.desk_report.specs.Reports.{IsBodyOf}
 use Rattle.desk_core.specs.declared.refusals.Refusal.{Refusal}
 use Rattle.desk_core.specs.declared.refusals.Stop.{Stop}
 use Rattle.desk_core.specs.declared.refusals.Stop.TheVariants.{Refused, Memory}
@@ -28,7 +28,7 @@ pub record IsReportOfRight (limits : Limits) (said : Book) (text : List ℕ) : T
   pub valid : IsCase case
   pub outcome : Outcome
   pub right : IsRight case limits outcome
-  pub reported : IsReportOf case outcome text
+  pub reported : IsBodyOf case outcome text
 
 -- a plan came to the report of a right outcome of the case that is said, or to the refusal that is said, unless memory was
 -- wanted

@@ -10,7 +10,7 @@ ghost use Rattle.desk_core.specs.Books.{gathered, book, Reports};
 
 use crate::refusals::{Refusal, Stop, stop_past};
 use desk_csv::{Form, read_rows};
-use desk_report::report;
+use desk_report::body;
 use driver_history::read_past;
 use duty_plan::{Case, Gate, Limits, Planner};
 use minute_line::{Bytes, History, Many, Memory, Name};
@@ -120,5 +120,5 @@ pub fn plan_text<R: Threads + Sync, P: Planner>(
 {
     let case = read_case(alloc, text)?;
     let outcome = planner.solve(rt, gate, alloc, &case, limits)?;
-    Ok(report(alloc, &case, &outcome)?)
+    Ok(body(alloc, &case, &outcome)?)
 }

@@ -2,3 +2,4 @@ pub mod WalkingSteps
 pub mod GrowingText
 pub mod FindingServices
 pub mod OneReport
+pub mod GrowingRows

@@ -11,7 +11,7 @@ use Rattle.duty_plan.specs.declared.outcomes.State.TheVariants.{Proved, OpenLabe
 use Rattle.duty_plan.specs.declared.plans.Case.{Case}
 use Rattle.desk_report.specs.Laws.{AreNumbers, FoundSame}
 use Rattle.desk_report.specs.Lines.{Line, add_line, with_lines}
-use Rattle.desk_report.specs.Reports.{state_word, outcome_lines, drivers_lines, orders_lines, IsReportOf}
+use Rattle.desk_report.specs.Reports.{state_word, outcome_lines, drivers_lines, orders_lines, IsBodyOf}
 use Rattle.desk_report.proofs.FindingServices.{is-there}
 
 -- no byte is a line feed
@@ -127,9 +127,9 @@ found-same monday day one two x y l p q e =
 monday-length : (day : ℤ) (days : List (List ℕ)) → AreDaysOf day days → length (get_or days 0 []) ≡ 10
 monday-length day days are = (are.1 0 (get_or days 0 []) (is-there days 0 (get_or days 0 []) [] (omega (arith, are.0)) refl)).0
 
--- outcomes with one report found the same
+-- outcomes with one body of a report found the same
 pub reports_tell_findings : (case other : Case) (one two : Outcome) (text : List ℕ) → AreNumbers one → AreNumbers two
-    → IsReportOf case one text → IsReportOf other two text → FoundSame one two
+    → IsBodyOf case one text → IsBodyOf other two text → FoundSame one two
 reports_tell_findings case other one two text p q (days, are, is) (dates, be, same) =
     let first = begins (get_or days 0 []) one (drivers_lines days case 0 one.plan.duties ++ orders_lines days case.week one.plan.duties 0 case.week.orders) in
     let second = begins (get_or dates 0 []) two (drivers_lines dates other 0 two.plan.duties ++ orders_lines dates other.week two.plan.duties 0 other.week.orders) in

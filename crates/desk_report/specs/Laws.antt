@@ -2,7 +2,7 @@
 use Rattle.std.specs.Prelude.{◌≡◌, ◌<◌, ◌^◌, ℕ, List, length}
 use Rattle.duty_plan.specs.declared.outcomes.Outcome.{Outcome}
 use Rattle.duty_plan.specs.declared.plans.Case.{Case}
-use Rattle.desk_report.specs.Reports.{IsReportOf}
+use Rattle.desk_report.specs.Reports.{IsBodyOf}
 
 -- the numbers of an outcome are such as a program holds
 pub record AreNumbers (outcome : Outcome) : Type 0 where
@@ -17,7 +17,7 @@ pub record FoundSame (one two : Outcome) : Type 0 where
   pub state : one.state ≡ two.state
   pub nodes : length one.tree ≡ length two.tree
 
--- outcomes with one report found the same
+-- outcomes with one body of a report found the same
 abbrev pub ReportsTellFindings : Type 0
 ReportsTellFindings = (case other : Case) (one two : Outcome) (text : List ℕ) → AreNumbers one → AreNumbers two
-    → IsReportOf case one text → IsReportOf other two text → FoundSame one two
+    → IsBodyOf case one text → IsBodyOf other two text → FoundSame one two

@@ -2,4 +2,6 @@ pub mod Lines
 pub mod Steps
 pub mod Services
 pub mod Reports
+pub mod Rows
+pub mod Exports
 pub mod Laws

@@ -78,13 +78,22 @@ orders_lines days week duties number [] = []
 orders_lines days week duties number (order ∷ rest) =
     order_line days week order (service_from week 0 duties number) ∷ orders_lines days week duties (number + 1) rest
 
--- the report of an outcome: what the search found, the drivers, the orders
-abbrev pub report_lines : List (List ℕ) → Case → Outcome → List Line
-report_lines days case outcome =
+-- what a report says of an outcome: what the search found, the drivers, the orders
+abbrev pub body_lines : List (List ℕ) → Case → Outcome → List Line
+body_lines days case outcome =
     outcome_lines (get_or days 0 []) outcome
     ++ (drivers_lines days case 0 outcome.plan.duties ++ orders_lines days case.week outcome.plan.duties 0 case.week.orders)
 
--- the text is the report of an outcome, with the stamps of the week's days
-abbrev pub IsReportOf : Case → Outcome → List ℕ → Type 0
-IsReportOf case outcome text =
-    (days : List (List ℕ)) × AreDaysOf case.week.monday.day days × (text ≡ with_lines [] (report_lines days case outcome))
+-- the report of an outcome that is kept as a draft: its body, and the draft's revision
+abbrev pub report_lines : List (List ℕ) → Case → Outcome → ℕ → List Line
+report_lines days case outcome revision = body_lines days case outcome ++ (codes "draft" ∷ decimal revision ∷ []) ∷ []
+
+-- the text is the body of an outcome's report, with the stamps of the week's days
+abbrev pub IsBodyOf : Case → Outcome → List ℕ → Type 0
+IsBodyOf case outcome text =
+    (days : List (List ℕ)) × AreDaysOf case.week.monday.day days × (text ≡ with_lines [] (body_lines days case outcome))
+
+-- the text is the report of an outcome that is kept as a draft of that revision, with the stamps of the week's days
+abbrev pub IsReportOf : Case → Outcome → ℕ → List ℕ → Type 0
+IsReportOf case outcome revision text =
+    (days : List (List ℕ)) × AreDaysOf case.week.monday.day days × (text ≡ with_lines [] (report_lines days case outcome revision))

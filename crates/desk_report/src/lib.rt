@@ -1,13 +1,18 @@
-//! The reports of planned weeks, as text. Money is in cents, and a stamp is in UTC.
+//! The reports and exports of planned weeks, as text. Money is in cents, and a stamp is in UTC.
 #![tactic(auto)]
 
 mod drivers;
+mod duty_rows;
+mod exports;
 mod laws;
 mod lines;
+mod node_rows;
 mod orders;
 mod reports;
+mod rows;
 mod services;
 mod steps;
 
+pub use exports::export;
 pub use laws::reports_tell_findings;
-pub use reports::report;
+pub use reports::{body, report};

@@ -1,8 +1,8 @@
-// The report of an outcome.
+// The report of an outcome, and its body, which says nothing of a draft.
 ghost use Rattle.std.specs.Prelude.{◌≡◌, ◌++◌, ◌∷◌, [], OnOk, IfOk, length, codes};
 ghost use Rattle.duty_plan.specs.Duties.{IsCase, IsLawfulPlan};
 ghost use Rattle.desk_report.specs.Lines.{with_lines};
-ghost use Rattle.desk_report.specs.Reports.{state_word, outcome_lines, IsReportOf};
+ghost use Rattle.desk_report.specs.Reports.{state_word, outcome_lines, IsBodyOf, IsReportOf};
 
 use crate::drivers::push_drivers;
 use crate::lines::{push_line, push_number_line};
@@ -34,13 +34,13 @@ fn push_outcome(text: &mut Bytes, monday: &[u8], outcome: &Outcome) -> Result<()
     push_number_line(text, b"nodes", outcome.tree.len() as u64)
 }
 
-/// The report of an outcome whose plan is lawful: the week, what the search found, a block for each driver, and a line for
+/// The body of a report, of an outcome whose plan is lawful: the week, what the search found, a block for each driver, and a line for
 /// each order. A block has the cost of the duty, the history that it follows, and the duty's lines, each at the stamp of its
 /// first minute. Its time grows with the length of the text, and with the number of orders times that of the steps.
-pub fn report(alloc: Global, case: &Case, outcome: &Outcome) -> Result<Bytes, Memory>
+pub fn body(alloc: Global, case: &Case, outcome: &Outcome) -> Result<Bytes, Memory>
     requires case { IsCase case.now }
     requires lawful { IsLawfulPlan case.now outcome.now.plan }
-    ensures { IfOk result (IsReportOf case.now outcome.now) }
+    ensures { IfOk result (IsBodyOf case.now outcome.now) }
 {
     let days: Days = week_days(case.week.monday);
     let duties = outcome.plan.duties.as_slice();
@@ -48,5 +48,16 @@ pub fn report(alloc: Global, case: &Case, outcome: &Outcome) -> Result<Bytes, Me
     push_outcome(&mut text, &days[0], outcome)?;
     push_drivers(alloc, &mut text, &days, case, duties)?;
     push_orders(&mut text, &days, &case.week, duties)?;
+    Ok(text)
+}
+
+/// The report of an outcome that is kept as a draft of this revision: its body, and the line of the draft.
+pub fn report(alloc: Global, case: &Case, outcome: &Outcome, revision: u64) -> Result<Bytes, Memory>
+    requires case { IsCase case.now }
+    requires lawful { IsLawfulPlan case.now outcome.now.plan }
+    ensures { IfOk result (IsReportOf case.now outcome.now revision) }
+{
+    let mut text = body(alloc, case, outcome)?;
+    push_number_line(&mut text, b"draft", revision)?;
     Ok(text)
 }

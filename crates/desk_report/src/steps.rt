@@ -56,19 +56,19 @@ impl Whereabouts {
     }
 }
 
-/// Adds the word of a kind, after a space.
-fn push_kind(text: &mut Bytes, kind: Kind) -> Result<(), Memory>
-    ensures { OnOk result (text.new ≡ text.old ++ 32 ∷ kind_word kind) }
+/// The word of a kind.
+pub(crate) fn kind_word(kind: Kind) -> &'static [u8]
+    ensures { result.now ≡ kind_word kind }
 {
     match kind {
-        Kind::Plain => push_word(text, b"plain"),
-        Kind::Daily => push_word(text, b"daily"),
-        Kind::Weekly => push_word(text, b"weekly"),
+        Kind::Plain => b"plain",
+        Kind::Daily => b"daily",
+        Kind::Weekly => b"weekly",
     }
 }
 
 /// The name of the place of that number.
-fn place_name(week: &Week, place: u32) -> &[u8]
+pub(crate) fn place_name(week: &Week, place: u32) -> &[u8]
     ensures { result.now ≡ place_name week.now place }
 {
     match week.places.get(place as usize) {
@@ -78,7 +78,7 @@ fn place_name(week: &Week, place: u32) -> &[u8]
 }
 
 /// The name of the order of that number.
-fn order_name(week: &Week, order: u32) -> &[u8]
+pub(crate) fn order_name(week: &Week, order: u32) -> &[u8]
     ensures { result.now ≡ order_name week.now order }
 {
     match week.orders.get(order as usize) {
@@ -112,7 +112,7 @@ fn push_off(text: &mut Bytes, days: &Days, at: u32, off: u32, kind: Kind) -> Res
     text.extend_from_slice(&stamp_in(days, at))?;
     push_word(text, b"off")?;
     push_number(text, off as u64)?;
-    push_kind(text, kind)?;
+    push_word(text, kind_word(kind))?;
     text.push(b'\n')
 }
 

@@ -1,5 +1,5 @@
 use Rattle.desk_report.proofs.WalkingSteps.{lawful-stays}
-use Rattle.desk_report.proofs.reports.report.Goals as goal
+use Rattle.desk_report.proofs.reports.body.Goals as goal
 
 pub push_drivers-requires-clause-lawful : goal.push_drivers-requires-clause-lawful
 push_drivers-requires-clause-lawful c = rw c.as_slice-duties.ensures c.requires.lawful.lawful
