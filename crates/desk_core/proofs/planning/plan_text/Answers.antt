@@ -12,6 +12,6 @@ returns g c = (
     valid = c.in_ok-case.ensures.valid;
     outcome = c.in_ok-outcome.outcome;
     right = c.in_ok-outcome.ensures.right;
-    reported = c.in_ok-report.ensures;
+    reported = c.in_ok-body.ensures;
   },
 )
