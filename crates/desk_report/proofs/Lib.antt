@@ -3,3 +3,12 @@ pub mod GrowingText
 pub mod FindingServices
 pub mod OneReport
 pub mod GrowingRows
+pub mod DutyEntries
+pub mod OneSheet
+pub mod SaidEntries
+pub mod OneEntry
+pub mod TellingRows
+pub mod TellingDuties
+pub mod TellingNodes
+pub mod KnownPairs
+pub mod OneExport

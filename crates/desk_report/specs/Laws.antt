@@ -1,7 +1,12 @@
--- Laws on reports.
-use Rattle.std.specs.Prelude.{◌≡◌, ◌<◌, ◌^◌, ℕ, List, length}
+-- Laws on reports and exports.
+use Rattle.std.specs.Prelude.{◌≡◌, ◌<◌, ◌^◌, ℕ, List, length, All}
+use Rattle.duty_plan.specs.declared.nodes.Node.{Node}
 use Rattle.duty_plan.specs.declared.outcomes.Outcome.{Outcome}
 use Rattle.duty_plan.specs.declared.plans.Case.{Case}
+use Rattle.duty_plan.specs.declared.plans.Plan.{Plan}
+use Rattle.duty_plan.specs.Duties.{IsCase, IsLawfulPlan, times}
+use Rattle.duty_plan.specs.Nodes.{IsTree}
+use Rattle.desk_report.specs.Exports.{IsExportOf}
 use Rattle.desk_report.specs.Reports.{IsBodyOf}
 
 -- the numbers of an outcome are such as a program holds
@@ -9,6 +14,13 @@ pub record AreNumbers (outcome : Outcome) : Type 0 where
   pub cost : outcome.cost < 2 ^ 64
   pub bound : outcome.bound < 2 ^ 64
   pub nodes : length outcome.tree < 2 ^ 64
+
+-- the numbers of a node are such as a program holds
+pub record AreNodeNumbers (node : Node) : Type 0 where
+  pub parent : node.parent < 2 ^ 64
+  pub prices : All (λ cents. cents < 2 ^ 64) node.prices.cents
+  pub bound : node.bound < 2 ^ 64
+  pub seen : node.seen < 2 ^ 64
 
 -- two searches found the same cost, bound and state, by the same number of nodes
 pub record FoundSame (one two : Outcome) : Type 0 where
@@ -21,3 +33,15 @@ pub record FoundSame (one two : Outcome) : Type 0 where
 abbrev pub ReportsTellFindings : Type 0
 ReportsTellFindings = (case other : Case) (one two : Outcome) (text : List ℕ) → AreNumbers one → AreNumbers two
     → IsBodyOf case one text → IsBodyOf other two text → FoundSame one two
+
+-- two plans have the same duties, and give away the same orders of the case
+pub record PlanSame (case : Case) (one two : Plan) : Type 0 where
+  pub duties : one.duties ≡ two.duties
+  pub out : (order : ℕ) → order < length case.week.orders → times order one.out ≡ times order two.out
+
+-- outcomes of a case with one export have the same plan and the same tree
+abbrev pub ExportsTellAll : Type 0
+ExportsTellAll = (case : Case) (one two : Outcome) (text : List ℕ) → IsCase case
+    → IsLawfulPlan case one.plan → IsLawfulPlan case two.plan → IsTree case.week one.tree → IsTree case.week two.tree
+    → All AreNodeNumbers one.tree → All AreNodeNumbers two.tree → IsExportOf case one text → IsExportOf case two text
+    → PlanSame case one.plan two.plan × (one.tree ≡ two.tree)
