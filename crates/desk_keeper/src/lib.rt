@@ -1,0 +1,14 @@
+//! What the office keeps from week to week: drivers' histories, drafts of weeks, and issues. A Monday stands for its week.
+#![tactic(auto)]
+
+mod copies;
+mod keeper;
+mod memory;
+mod records;
+#[cfg(test)]
+mod tests;
+
+pub use copies::copy_kept;
+pub use keeper::{Keeper, KeeperError};
+pub use memory::{KeptRow, MemoryKeeper};
+pub use records::{DRAFT_LIMIT, Draft, DraftDriver, Issue, Kept, next_monday};
