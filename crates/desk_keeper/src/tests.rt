@@ -100,7 +100,7 @@ fn a_draft_is_published_once_and_moves_its_driver_on(rt: HostRuntime) -> Result<
     Ok(())
 }
 
-// Each of the eight calls in turn fails; the tables are then those of the calls before it.
+// Each of the seven calls in turn fails, then none; the tables are those of the calls that did not.
 #[test]
 fn a_call_that_fails_changes_nothing(rt: HostRuntime) -> Result<(), Fail> {
     let alloc = rt.alloc();
