@@ -1,5 +1,5 @@
 // The calls of the keeper in memory, by hand.
-ghost use Rattle.std.specs.Prelude.{pos, ◌≤ℤ◌};
+ghost use Rattle.std.specs.Prelude.{◌≡◌, length, IfOk};
 
 use super::*;
 use minute_line::{Many, Memory, Monday, Name, fresh, read_monday};
@@ -10,17 +10,26 @@ fn name(alloc: Global) -> Result<Name, Memory> {
     Many::from_slice(alloc, b"D1")
 }
 
-// A draft of the week, of one driver, of whom nothing was kept.
-fn draft_of(alloc: Global, monday: Monday, revision: u64) -> Result<Option<Draft>, Memory> {
-    if monday.day > 47_478 || revision < 1 || revision > DRAFT_LIMIT {
-        return Ok(None);
-    }
+// One driver, of whom nothing was kept.
+fn one_driver(alloc: Global) -> Result<Many<DraftDriver>, Memory>
+    ensures { IfOk result (λ drivers. length drivers ≡ 1) }
+{
     let mut drivers = Many::new(alloc);
     drivers.push(DraftDriver {
         name: name(alloc)?,
         seen: None,
         next: fresh(alloc),
     })?;
+    Ok(drivers)
+}
+
+// A draft of the week, of one driver.
+#[tactic(auto, using(crate::proofs::Entries::one_named))]
+fn draft_of(alloc: Global, monday: Monday, revision: u64) -> Result<Option<Draft>, Memory> {
+    if monday.day > 47_478 || revision < 1 || revision > DRAFT_LIMIT {
+        return Ok(None);
+    }
+    let drivers = one_driver(alloc)?;
     Ok(Some(Draft {
         monday,
         revision,
@@ -62,9 +71,9 @@ fn put<B: Keeper>(keeper: &mut B, alloc: Global, monday: Monday) -> Result<u64, 
 
 // Publishes the draft of a week, by three calls. Its receipt, or 0 where there is none to publish.
 fn publish<B: Keeper>(keeper: &mut B, alloc: Global, monday: Monday) -> Result<u64, KeeperError> {
-    if keeper.published(alloc, monday)?.is_some() {
+    let None = keeper.published(alloc, monday)? else {
         return Ok(0);
-    }
+    };
     match keeper.draft(alloc, monday)? {
         Some(draft) => keeper.publish(alloc, &draft),
         None => Ok(0),
@@ -72,7 +81,11 @@ fn publish<B: Keeper>(keeper: &mut B, alloc: Global, monday: Monday) -> Result<u
 }
 
 // The Monday that a driver's kept history leads up to, in days after the given one, or -1.
-fn kept_after<B: Keeper>(keeper: &mut B, alloc: Global, monday: Monday) -> Result<i32, KeeperError> {
+fn kept_after<B: Keeper>(
+    keeper: &mut B,
+    alloc: Global,
+    monday: Monday,
+) -> Result<i32, KeeperError> {
     match keeper.history(alloc, &name(alloc)?)? {
         Some(kept) => Ok(kept.monday.day.saturating_sub(monday.day)),
         None => Ok(-1),
@@ -95,7 +108,14 @@ fn a_draft_is_published_once_and_moves_its_driver_on(rt: HostRuntime) -> Result<
     assert_eq!(rt; put(&mut keeper, alloc, second), Ok(0));
     assert_eq!(rt; kept_after(&mut keeper, alloc, second), Ok(7));
     assert_eq!(rt; publish(&mut keeper, alloc, first), Ok(2));
-    assert_eq!(rt; (keeper.histories.len(), keeper.drafts.len(), keeper.issues.len()), (1, 0, 2));
+    assert_eq!(rt;
+        (
+            keeper.histories.len(),
+            keeper.drafts.len(),
+            keeper.issues.len()
+        ),
+        (1, 0, 2)
+    );
     assert_eq!(rt; keeper.faults, 0);
     Ok(())
 }
@@ -119,9 +139,21 @@ fn a_call_that_fails_changes_nothing(rt: HostRuntime) -> Result<(), Fail> {
     for (fails, putting, publishing, kept, left) in rows {
         let mut keeper = keeper(alloc, fails).ok().ok_or("memory")?;
         assert_eq!(rt; put(&mut keeper, alloc, monday), putting, "call {fails}");
-        assert_eq!(rt; publish(&mut keeper, alloc, monday), publishing, "call {fails}");
-        assert_eq!(rt; kept_after(&mut keeper, alloc, monday), kept, "call {fails}");
-        assert_eq!(rt; (keeper.drafts.len(), keeper.issues.len()), left, "call {fails}");
+        assert_eq!(rt;
+            publish(&mut keeper, alloc, monday),
+            publishing,
+            "call {fails}"
+        );
+        assert_eq!(rt;
+            kept_after(&mut keeper, alloc, monday),
+            kept,
+            "call {fails}"
+        );
+        assert_eq!(rt;
+            (keeper.drafts.len(), keeper.issues.len()),
+            left,
+            "call {fails}"
+        );
         assert_eq!(rt; keeper.faults, (fails < 8) as u64, "call {fails}");
     }
     Ok(())
