@@ -1,0 +1,3 @@
+pub mod GrowingText
+pub mod Ranges
+pub mod WholeText

@@ -1,0 +1,11 @@
+use Rattle.std.proofs.Common.{◌≡◌, ◌*◌}
+use Rattle.week_maker.specs.Draws.{state_after}
+use Rattle.week_maker.specs.Rows.{with_rows, rows_for_each}
+use Rattle.week_maker.specs.MadeWeeks.{order_rows}
+use Rattle.week_maker.proofs.orders.push_orders.Given as goal
+
+abbrev pub invariant-loop-before : goal.invariant-loop-before
+invariant-loop-before l = record {
+  text : l.text ≡ with_rows l.fn.text (rows_for_each l.before (order_rows l.fn.draws.state));
+  state : l.draws.state ≡ state_after l.fn.draws.state (7 * l.before);
+}
