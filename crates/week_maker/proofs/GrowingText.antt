@@ -1,9 +1,9 @@
 -- A text grows row by row, and the draws go on.
-use Rattle.std.proofs.Common.{◌≡◌, ◌≢◌, ℕ, zero, suc, ◌+◌, ◌-◌, ◌*◌, List, ◌++◌, codes, refl, sym, ◌∙◌, add-one, arith}
+use Rattle.std.proofs.Common.{◌≡◌, ◌≢◌, ℕ, suc, ◌+◌, ◌-◌, ◌*◌, List, ◌++◌, codes, refl, sym, ◌∙◌, add-one, arith}
 use Rattle.std.specs.Fmt.{decimal}
 use Rattle.std.proofs.lemmas.Bool.{ne_eqb}
 use Rattle.std.proofs.lemmas.List.Sums.{fold-append}
-use Rattle.week_maker.specs.Draws.{state_next, state_after, drawn}
+use Rattle.week_maker.specs.Draws.{state_after, drawn}
 use Rattle.week_maker.specs.Rows.{Row, with_row, with_rows, rows_for_each, place_name}
 use Rattle.week_maker.specs.MadeWeeks.{made_order, order_of}
 

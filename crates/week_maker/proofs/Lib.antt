@@ -1,3 +1,4 @@
 pub mod GrowingText
 pub mod Ranges
 pub mod WholeText
+pub mod Stamps

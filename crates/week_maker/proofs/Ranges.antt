@@ -1,8 +1,7 @@
 -- What is drawn lies in its range, and a week has 148 rows.
-use Rattle.std.proofs.Common.{◌≡◌, ℕ, zero, suc, ◌+◌, ◌*◌, ◌/◌, ◌%◌, ◌<◌, ◌≤◌, List, [], ◌∷◌, ◌++◌, length, refl, arith, length-append}
-use Rattle.week_maker.specs.Draws.{state_next, state_after, drawn}
+use Rattle.std.proofs.Common.{◌≡◌, ℕ, zero, suc, ◌+◌, ◌*◌, List, [], ◌∷◌, ◌++◌, length, refl, arith, length-append}
 use Rattle.week_maker.specs.Rows.{Row, rows_for_each}
-use Rattle.week_maker.specs.MadeWeeks.{made_order, made_rows, hub_legs, ring_legs, ring_seed, driver_rows, order_rows, order_seed, place_row, week_row}
+use Rattle.week_maker.specs.MadeWeeks.{made_order, hub_legs, ring_legs, ring_seed, driver_rows, order_rows, order_seed, place_row, week_row}
 use Rattle.week_maker.specs.Ranges.{IsOrderInRange, IsWeekInRange}
 
 -- an order that was drawn is in range

@@ -6,10 +6,14 @@ use Rattle.week_maker.specs.declared.orders.MadeOrder.{MadeOrder}
 use Rattle.week_maker.specs.Draws.{state_after, drawn}
 use Rattle.week_maker.specs.Rows.{Row, with_rows, rows_for_each, place_name, driver_name, order_name}
 
+-- the Monday of the week, as text
+abbrev pub week_monday : List ℕ
+week_monday = codes "2026-03-02"
+
 -- the days of the week as text, Monday first
 abbrev pub week_dates : List (List ℕ)
 week_dates =
-    codes "2026-03-02"
+    week_monday
     ∷ codes "2026-03-03"
     ∷ codes "2026-03-04"
     ∷ codes "2026-03-05"
@@ -20,7 +24,7 @@ week_dates =
 
 -- the week begins on that Monday; a load takes 15 minutes, a night away 3000 cents, and services start on the hour
 abbrev pub week_row : Row
-week_row = codes "week" ∷ codes "2026-03-02" ∷ codes "15" ∷ codes "3000" ∷ codes "60" ∷ []
+week_row = codes "week" ∷ week_monday ∷ codes "15" ∷ codes "3000" ∷ codes "60" ∷ []
 
 -- the row of a place
 abbrev pub place_row : ℕ → Row

@@ -1,7 +1,9 @@
--- The ranges that the numbers of made weeks lie in.
-use Rattle.std.specs.Prelude.{◌≡◌, ℕ, ◌+◌, ◌/◌, ◌<◌, ◌≤◌, length}
+-- What holds of the numbers and the stamps of made weeks.
+use Rattle.std.specs.Prelude.{◌≡◌, ℕ, ◌+◌, ◌/◌, ◌<◌, ◌≤◌, length, pos}
+use Rattle.minute_line.specs.DateText.{IsMondayText, IsStampText, stamp_minutes, text_day}
+use Rattle.minute_line.specs.DateWriting.{stamp_text}
 use Rattle.week_maker.specs.declared.orders.MadeOrder.{MadeOrder}
-use Rattle.week_maker.specs.MadeWeeks.{hub_minutes, ring_minutes, order_of, ring_seed, order_seed, made_rows}
+use Rattle.week_maker.specs.MadeWeeks.{week_monday, week_dates, hub_minutes, ring_minutes, order_of, ring_seed, order_seed, made_rows}
 
 -- the number is at least `low` and at most `high`
 abbrev pub IsFrom : ℕ → ℕ → ℕ → Type 0
@@ -23,3 +25,13 @@ pub record IsWeekInRange (seed : ℕ) : Type 0 where
   pub hub : (place : ℕ) → IsFrom 30 179 (hub_minutes seed place)
   pub ring : (place : ℕ) → IsFrom 20 79 (ring_minutes (ring_seed seed) place)
   pub orders : (number : ℕ) → IsOrderInRange (order_of (order_seed seed) number)
+
+-- the stamp that is written for a minute is a stamp, and is read as that minute of the week that begins on its Monday
+abbrev pub IsReadBack : ℕ → Type 0
+IsReadBack minute = IsStampText (stamp_text week_dates minute) × (stamp_minutes (text_day week_monday) (stamp_text week_dates minute) ≡ pos minute)
+
+-- the week begins on a Monday, and the stamps of each window are read as its minutes
+pub record IsWeekReadBack (seed : ℕ) : Type 0 where
+  pub monday : IsMondayText week_monday
+  pub opens : (number : ℕ) → IsReadBack (order_of (order_seed seed) number).opens
+  pub closes : (number : ℕ) → IsReadBack (order_of (order_seed seed) number).closes

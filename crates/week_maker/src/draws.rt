@@ -4,6 +4,7 @@ ghost use Rattle.week_maker.specs.Draws.{state_next, state_after, drawn};
 
 /// What a state is multiplied by, and what is added.
 const FACTOR: u64 = 6_364_136_223_846_793_005;
+
 const SUMMAND: u64 = 1_442_695_040_888_963_407;
 
 /// A stream of numbers, which its state determines.

@@ -7,12 +7,7 @@ use crate::rows::{push_field, push_name};
 use minute_line::{Bytes, Memory};
 
 /// Adds a row that begins with this word and the driver's name, and ends with these fields.
-fn push_driver_row(
-    text: &mut Bytes,
-    word: &[u8],
-    driver: u32,
-    fields: &[u8],
-) -> Result<(), Memory>
+fn push_driver_row(text: &mut Bytes, word: &[u8], driver: u32, fields: &[u8]) -> Result<(), Memory>
     ensures { OnOk result (text.new ≡ with_row text.old (driver_row word.now driver fields.now)) }
 {
     text.extend_from_slice(word)?;
@@ -27,7 +22,12 @@ fn push_driver(text: &mut Bytes, driver: u32) -> Result<(), Memory>
 {
     push_driver_row(text, b"driver", driver, b"24000,20000")?;
     push_driver_row(text, b"rest", driver, b"2026-02-28T00:00,2700")?;
-    push_driver_row(text, b"worked", driver, b"0,0,0,0,0,0,0,0,0,0,0,0,0,0,0,0,0")?;
+    push_driver_row(
+        text,
+        b"worked",
+        driver,
+        b"0,0,0,0,0,0,0,0,0,0,0,0,0,0,0,0,0",
+    )?;
     push_driver_row(text, b"past", driver, b"OFF,2880")
 }
 

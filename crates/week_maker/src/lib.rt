@@ -12,6 +12,6 @@ mod rows;
 mod tests;
 mod weeks;
 
-pub use laws::made_weeks_are_in_range;
+pub use laws::{made_stamps_are_read_back, made_weeks_are_in_range};
 pub use orders::MadeOrder;
 pub use weeks::make_week;

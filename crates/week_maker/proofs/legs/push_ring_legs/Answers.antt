@@ -4,7 +4,7 @@ use Rattle.week_maker.proofs.GrowingText.{rows-none, rows-more, state-more, draw
 use Rattle.week_maker.proofs.legs.push_ring_legs.Goals as goal
 
 pub loop-before-init : goal.loop-before-init
-loop-before-init c = record { text = rows-none c.args.text.now (ring_legs c.args.draws.now.state); state = refl; }
+loop-before-init c = record { text = rows-none c.args.text.now (ring_legs c.args.draws.now.state); state = refl }
 
 pub loop-before-preserved : goal.loop-before-preserved
 loop-before-preserved c =

@@ -6,7 +6,7 @@ use Rattle.week_maker.proofs.Ranges.{order-in-range}
 use Rattle.week_maker.proofs.orders.push_orders.Goals as goal
 
 pub loop-before-init : goal.loop-before-init
-loop-before-init c = record { text = rows-none c.args.text.now (order_rows c.args.draws.now.state); state = refl; }
+loop-before-init c = record { text = rows-none c.args.text.now (order_rows c.args.draws.now.state); state = refl }
 
 pub push_order-requires : goal.push_order-requires
 push_order-requires c = rw c.draw_order-order.ensures.order (order-in-range c.loop-before.draws.state)

@@ -1,4 +1,4 @@
-use Rattle.std.proofs.Common.{refl, sym, ◌∙◌}
+use Rattle.std.proofs.Common.{sym}
 use Rattle.week_maker.proofs.WholeText.{whole-text}
 use Rattle.week_maker.proofs.weeks.make_week.Goals as goal
 
