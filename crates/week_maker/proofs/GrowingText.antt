@@ -1,9 +1,12 @@
 -- A text grows row by row, and the draws go on.
-use Rattle.std.proofs.Common.{◌≡◌, ◌≢◌, ℕ, suc, ◌+◌, ◌-◌, ◌*◌, List, ◌++◌, codes, refl, sym, ◌∙◌, add-one, arith}
+use Rattle.std.proofs.Common.{mod-lt, ◌≡◌, ◌≢◌, ℕ, zero, suc, ◌+◌, ◌-◌, ◌*◌, ◌/◌, ◌%◌, ◌^◌, ◌<◌, List, [], ◌∷◌, ◌++◌, codes, ap, append_assoc, refl, sym, ◌∙◌, add-one, arith}
 use Rattle.std.specs.Fmt.{decimal}
+use Rattle.std.specs.Prelude.{fold}
+use Rattle.std.specs.List.{flat_map}
 use Rattle.std.proofs.lemmas.Bool.{ne_eqb}
+use Rattle.std.proofs.lemmas.List.{append-nil}
 use Rattle.std.proofs.lemmas.List.Sums.{fold-append}
-use Rattle.week_maker.specs.Draws.{state_after, drawn}
+use Rattle.week_maker.specs.Draws.{state_next, state_after, drawn}
 use Rattle.week_maker.specs.Rows.{Row, with_row, with_rows, rows_for_each, place_name}
 use Rattle.week_maker.specs.MadeWeeks.{made_order, order_of}
 
@@ -21,6 +24,19 @@ pub rows-more : (text : List ℕ) (rows_of : ℕ → List Row) (i : ℕ) (rows :
     → rows ≡ rows_of (i + 1) → next ≡ with_rows now rows → next ≡ with_rows text (rows_for_each (i + 1) rows_of)
 unfolding rows_for_each
 rows-more text rows_of i rows now next t r n = n ∙ rw (t, r, add-one) (sym (then-rows text (rows_for_each i rows_of) (rows_of (suc i))))
+
+-- fields, each after a comma
+fields-after : (text : List ℕ) (fields : Row) → fold (λ before field. before ++ 44 ∷ field) text fields ≡ text ++ flat_map (λ field. 44 ∷ field) fields
+fields-after text [] = sym (append-nil text)
+fields-after text (field ∷ fields) =
+    fields-after (text ++ 44 ∷ field) fields ∙ append_assoc text (44 ∷ field) (flat_map (λ more. 44 ∷ more) fields)
+
+-- fields that are written at once, as they stand between their commas
+pub fields-at-once : (text next word name joined : List ℕ) (fields : Row) → 44 ∷ joined ≡ flat_map (λ field. 44 ∷ field) fields
+    → next ≡ with_row text (word ∷ name ∷ joined ∷ []) → next ≡ with_row text (word ∷ name ∷ fields)
+fields-at-once text next word name joined fields j n =
+    n ∙ ap (λ (t : List ℕ). t ++ 10 ∷ [])
+    (ap (λ (t : List ℕ). ((text ++ word) ++ 44 ∷ name) ++ t) j ∙ sym (fields-after ((text ++ word) ++ 44 ∷ name) fields))
 
 -- the state after one draw more
 pub state-more : (seed i state next : ℕ) → state ≡ state_after seed i → next ≡ state_after state 1 → next ≡ state_after seed (i + 1)
@@ -47,3 +63,18 @@ order-next seed i state s =
 -- the name of a place that is not the depot
 pub place-name-other : (place : ℕ) → place ≢ 0 → place_name place ≡ codes "P" ++ decimal place
 place-name-other place other = rw (ne_eqb place 0 other) refl
+
+-- the state after some draws and then more
+state-on : (seed before more : ℕ) → state_after (state_after seed before) more ≡ state_after seed (before + more)
+state-on seed before zero = let same : before + 0 ≡ before = omega arith in rw same refl
+state-on seed before (suc more) =
+    let next : before + suc more ≡ suc (before + more) = omega arith in
+    rw next (ap state_next (state-on seed before more))
+
+-- draws from a state that others have left
+pub drawn-on : (seed before others size : ℕ) → drawn (state_after seed before) others size ≡ drawn seed (before + others) size
+drawn-on seed before others size = ap (λ (state : ℕ). state_next state / 2 ^ 33 % size) (state-on seed before others)
+
+-- a draw is below its size
+pub drawn-below : (seed others size : ℕ) → 0 < size → drawn seed others size < size
+drawn-below seed others size some = mod-lt _ some

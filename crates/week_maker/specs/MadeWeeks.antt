@@ -1,5 +1,5 @@
 -- The text of the week that a seed makes.
-use Rattle.std.specs.Prelude.{ℕ, ◌+◌, ◌-◌, ◌*◌, List, [], ◌∷◌, ◌++◌, codes}
+use Rattle.std.specs.Prelude.{ℕ, ◌+◌, ◌-◌, ◌*◌, List, [], ◌∷◌, ◌++◌, codes, replicate}
 use Rattle.std.specs.Fmt.{decimal}
 use Rattle.minute_line.specs.DateWriting.{stamp_text}
 use Rattle.week_maker.specs.declared.orders.MadeOrder.{MadeOrder}
@@ -54,17 +54,17 @@ hub_legs seed place = both_ways 0 place (hub_minutes seed place)
 abbrev pub ring_legs : ℕ → ℕ → List Row
 ring_legs seed place = both_ways place (place + 1) (ring_minutes seed place)
 
--- a row of a driver: a word, the name, and what is the same of all drivers
-abbrev pub driver_row : List ℕ → ℕ → List ℕ → Row
-driver_row word driver same = word ∷ driver_name driver ∷ same ∷ []
+-- the end of the drivers' weekly rest, on Saturday
+abbrev pub rest_end : List ℕ
+rest_end = codes "2026-02-28T00:00"
 
--- the rows of a driver: 24000 kg for 20000 cents, and nothing but off since a rest of 2700 minutes that ended on Saturday 00:00
+-- the rows of a driver: 24000 kg for 20000 cents, a rest of 2700 minutes, no work in the weeks before, and nothing but off since
 abbrev pub driver_rows : ℕ → List Row
 driver_rows driver =
-    driver_row (codes "driver") driver (codes "24000,20000")
-    ∷ driver_row (codes "rest") driver (codes "2026-02-28T00:00,2700")
-    ∷ driver_row (codes "worked") driver (codes "0,0,0,0,0,0,0,0,0,0,0,0,0,0,0,0,0")
-    ∷ driver_row (codes "past") driver (codes "OFF,2880")
+    (codes "driver" ∷ driver_name driver ∷ codes "24000" ∷ codes "20000" ∷ [])
+    ∷ (codes "rest" ∷ driver_name driver ∷ rest_end ∷ codes "2700" ∷ [])
+    ∷ (codes "worked" ∷ driver_name driver ∷ codes "0" ∷ replicate 16 (codes "0"))
+    ∷ (codes "past" ∷ driver_name driver ∷ codes "OFF" ∷ codes "2880" ∷ [])
     ∷ []
 
 -- the minute at which the window of an order opens: on one of five days, from 06:00 on, by quarters of an hour

@@ -1,14 +1,14 @@
 // The drivers, each of whom comes out of a weekly rest that ended on Saturday.
-ghost use Rattle.std.specs.Prelude.{◌≡◌, ◌+◌, ◌<◌, OnOk};
+ghost use Rattle.std.specs.Prelude.{◌≡◌, ◌∷◌, [], OnOk};
 ghost use Rattle.week_maker.specs.Rows.{driver_name, with_row, with_rows, rows_for_each};
-ghost use Rattle.week_maker.specs.MadeWeeks.{driver_row, driver_rows};
+ghost use Rattle.week_maker.specs.MadeWeeks.{driver_rows};
 
 use crate::rows::{push_field, push_name};
 use minute_line::{Bytes, Memory};
 
-/// Adds a row that begins with this word and the driver's name, and ends with these fields.
+/// Adds a row of a word, the driver's name, and fields as they stand between their commas.
 fn push_driver_row(text: &mut Bytes, word: &[u8], driver: u32, fields: &[u8]) -> Result<(), Memory>
-    ensures { OnOk result (text.new ≡ with_row text.old (driver_row word.now driver fields.now)) }
+    ensures { OnOk result (text.new ≡ with_row text.old (word.now ∷ driver_name driver ∷ fields.now ∷ [])) }
 {
     text.extend_from_slice(word)?;
     push_name(text, b'D', driver)?;
@@ -28,7 +28,8 @@ fn push_driver(text: &mut Bytes, driver: u32) -> Result<(), Memory>
         driver,
         b"0,0,0,0,0,0,0,0,0,0,0,0,0,0,0,0,0",
     )?;
-    push_driver_row(text, b"past", driver, b"OFF,2880")
+    push_driver_row(text, b"past", driver, b"OFF,2880")?;
+    Ok(())
 }
 
 /// Adds the rows of the twelve drivers.

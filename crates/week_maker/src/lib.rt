@@ -12,6 +12,5 @@ mod rows;
 mod tests;
 mod weeks;
 
-pub use laws::{made_stamps_are_read_back, made_weeks_are_in_range};
-pub use orders::MadeOrder;
+pub use laws::{draws_go_on, made_stamps_are_read_back, made_weeks_are_in_range};
 pub use weeks::make_week;

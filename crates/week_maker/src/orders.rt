@@ -21,20 +21,20 @@ const DAYS: [[u8; 10]; 7] = [
 ];
 
 /// What is drawn for an order.
-#[derive(Clone, Copy, Debug, PartialEq, Eq)]
-pub struct MadeOrder {
+#[derive(Clone, Copy)]
+pub(crate) struct MadeOrder {
     /// The place, from 1 to 12.
-    pub place: u32,
+    pub(crate) place: u32,
     /// The first week minute at which its service may start.
-    pub opens: u32,
+    pub(crate) opens: u32,
     /// The last one.
-    pub closes: u32,
+    pub(crate) closes: u32,
     /// The minutes of its service.
-    pub service: u32,
+    pub(crate) service: u32,
     /// Its load in kg.
-    pub kg: u32,
+    pub(crate) kg: u32,
     /// What a subcontractor takes for it, in cents.
-    pub price: u32,
+    pub(crate) price: u32,
 }
 
 /// Draws an order: seven numbers.
