@@ -166,10 +166,39 @@ fn orders_of(rows: &Rows, places: &[String], first_day: i64) -> Result<Vec<Order
     Ok(orders)
 }
 
-pub fn read_week(text: &str) -> Result<Week, String> {
+fn rows_of(text: &str) -> Result<(Rows<'_>, i64), String> {
     let rows: Rows = text.lines().filter(|line| !line.is_empty()).map(|line| line.split(',').collect()).collect();
     let first = rows.first().filter(|row| row[0] == "week").ok_or("the first row is no week row")?;
     let first_day = day_of(first[1]).ok_or("no Monday")?;
+    Ok((rows, first_day))
+}
+
+/// The drivers of a check text in the order of their first `did` row, each with the history and the line. A driver without
+/// history rows was at rest for 2,700 minutes.
+pub fn read_driven(text: &str) -> Result<Vec<(String, Past, Vec<Stint>)>, String> {
+    let (rows, first_day) = rows_of(text)?;
+    let mut driven: Vec<(String, Past, Vec<Stint>)> = Vec::new();
+    for row in rows_with(&rows, "did") {
+        let (mark, kind) = mark_of(row[2])?;
+        let stint = Stint { mark, kind, minutes: number(row, 3)? as u32 };
+        match driven.iter_mut().find(|(name, _, _)| name == row[1]) {
+            Some((_, _, line)) => line.push(stint),
+            None => {
+                let is_known = ["rest", "worked", "past"].iter().any(|word| rows_with(&rows, word).any(|past| past[1] == row[1]));
+                let fresh = Past {
+                    prev_weekly: 2_700, prev_drive: 0, work16: vec![0; 16], open_off: 2_700, stints: Vec::new(), owed: 0, due_weeks: 0,
+                };
+                let past = if is_known { past_of(&rows, row[1], first_day)? } else { fresh };
+                driven.push((row[1].to_string(), past, vec![stint]));
+            }
+        }
+    }
+    Ok(driven)
+}
+
+pub fn read_week(text: &str) -> Result<Week, String> {
+    let (rows, first_day) = rows_of(text)?;
+    let first = &rows[0];
     let places: Vec<String> = rows_with(&rows, "place").map(|row| row[1].to_string()).collect();
     let mut legs = Vec::new();
     for row in rows_with(&rows, "leg") {
