@@ -59,10 +59,7 @@ pub fn tight_history(draws: &mut Draws, text: &mut String, name: &str) {
             ];
             history(text, name, 2_700, &past, 3_360, &zeros);
         }
-        3 => {
-            let debt = draws.one_of(&[1_440, 1_500, 2_400, 2_699]);
-            history(text, name, debt, &[("READY", 18_720), ("OFF", 2_880)], 0, &zeros);
-        }
+        3 => owing_history(draws, text, name),
         4 => history(text, name, 1_440, &[("WORK", 30), ("OFF", 2_850)], 0, &zeros),
         5 => {
             let past = [
@@ -74,6 +71,12 @@ pub fn tight_history(draws: &mut Draws, text: &mut String, name: &str) {
         6 => history(text, name, 2_700, &[("WORK", 100), ("DRIVE", 200), ("OFF", 15), ("DRIVE", 60)], 600, &zeros),
         _ => history(text, name, 1_800, &[("DRIVE", 270), ("OFF", 30), ("WORK", 200), ("OFF", tail)], 3_360, &zeros),
     }
+}
+
+/// A weekly rest below 2,700 minutes two weeks before the last one: what it lacks is due by the end of the planned week.
+pub fn owing_history(draws: &mut Draws, text: &mut String, name: &str) {
+    let rest = draws.one_of(&[1_440, 1_500, 2_400, 2_699]);
+    history(text, name, rest, &[("READY", 18_720), ("OFF", 2_880)], 0, &[0; 16]);
 }
 
 pub fn easy_history(draws: &mut Draws, text: &mut String, name: &str) {
@@ -151,7 +154,8 @@ fn orders(draws: &mut Draws, shape: Shape, text: &mut String, load: u32, near: u
         let (opens, closes) = window(draws, shape, number, load, near);
         let service = draws.one_of(&[15, 30, 60, 240]);
         let kg = draws.one_of(&[6_000, 12_000, 12_000]);
-        let price = 5_000 + 1_000 * draws.below(30);
+        let least = if matches!(shape, Shape::Breaks | Shape::Night | Shape::Fees) { 15_000 } else { 5_000 };
+        let price = least + 1_000 * draws.below(30);
         let (opens, closes) = (stamp(opens as i64), stamp(closes as i64));
         writeln!(text, "order,{},{place},{opens},{closes},{service},{kg},{price}", ["A", "B", "C"][number]).unwrap();
     }
