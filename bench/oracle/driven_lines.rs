@@ -63,7 +63,8 @@ fn proposed(draws: &mut Draws, style: Style, line: &[Stint]) -> Stint {
 /// A line that goes on for as long as it may: a block on duty that breaks a rule is cut before the fault, but for the last one,
 /// which is left as it is or cut just after it.
 fn line_near_limits(draws: &mut Draws, style: Style, past: &Past) -> Vec<Stint> {
-    let mut line = vec![Stint { mark: Mark::Off, kind: [Kind::Weekly, Kind::Daily][draws.below(2)], minutes: draws.one_of(&[0, 360, 1_080]) }];
+    let kind = [Kind::Weekly, Kind::Weekly, Kind::Daily][draws.below(3)];
+    let mut line = vec![Stint { mark: Mark::Off, kind, minutes: draws.one_of(&[0, 360, 1_080]) }];
     for _ in 0..8 + draws.below(50) {
         let before: u32 = line.iter().map(|stint| stint.minutes).sum();
         let next = proposed(draws, style, &line);
@@ -83,9 +84,9 @@ fn line_near_limits(draws: &mut Draws, style: Style, past: &Past) -> Vec<Stint> 
             line.pop();
             if lawful > 0 {
                 line.push(Stint { minutes: lawful, ..next });
-            } else if line.len() == 1 {
+            } else if line.len() == 1 && line[0].minutes < 4_000 {
                 line[0].minutes += 540;
-            } else if is_off(&line) {
+            } else if is_off(&line) && line.len() > 1 {
                 line.pop();
             }
         }

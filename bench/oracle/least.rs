@@ -286,7 +286,10 @@ pub fn least(week: &Week) -> Result<(u64, usize), String> {
         }
         cost_of = next;
     }
-    let out = |served: usize| (0..week.orders.len()).filter(|order| served >> order & 1 == 0).map(|order| week.orders[order].price).sum::<u64>();
+    let out = |served: usize| {
+        let left = (0..week.orders.len()).filter(|order| served >> order & 1 == 0);
+        left.map(|order| week.orders[order].price).sum::<u64>()
+    };
     let costs = (0..sets).filter_map(|served| cost_of[served].map(|cost| cost + out(served)));
     costs.min().map(|cost| (cost, fronts)).ok_or("no plan".to_string())
 }
