@@ -4,6 +4,7 @@ pub mod Listing
 pub mod Elements
 pub mod Storing
 pub mod Links
+pub mod Days
 pub mod Entries
 pub mod Fields
 pub mod Pruned

@@ -20,7 +20,7 @@ use Rattle.duty_pricing.specs.Slots.{AreChained, entries_of}
 -- room for the minutes of any week, and for the hours of each place
 pub record StoreHasRoom (store : LabelStore) : Type 0 where
   pub minutes : length store.minutes.items ≡ WEEK_MINUTES + 1
-  pub cells : length store.cells.items ≡ 10816
+  pub cells : length store.cells.items ≡ 21632
 
 -- no label is stored, and no chunk is held
 pub record IsEmptyStore (store : LabelStore) : Type 0 where

@@ -44,7 +44,7 @@ pub record IsSearch (asked : Asked) (minute : ℕ) (store : LabelStore) : Type 0
   pub shown : EachOf (λ n e. IsKnown asked.case.now asked.driver asked.pairs.now asked.prices.now store.known e) (entries_of store.slots)
   pub has_best : (value : ℤ) → store.known ≡ Some value → IsBest asked (entries_of store.slots) store.best value
   pub minutes_all : length store.minutes.items ≡ WEEK_MINUTES + 1
-  pub cells_all : length store.cells.items ≡ 10816
+  pub cells_all : length store.cells.items ≡ 21632
 
 -- the seat holds the chunks of the stored labels, and was not answered Full
 abbrev pub IsOpen : Asked → SeatView → LabelStore → Type 0

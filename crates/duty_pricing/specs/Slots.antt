@@ -1,10 +1,11 @@
 -- The entries that slots stand for, and the links between slots.
-use Rattle.std.specs.Prelude.{◌≡◌, ℕ, zero, suc, ◌+◌, ◌*◌, ◌/◌, ◌<◌, ◌≤ℤ◌, pos, Bool, false, ◌==◌, if◌then◌else◌, List, [], ◌∷◌, ◌++◌, length, Option, Some, None, slice_get, slice_index}
+use Rattle.std.specs.Prelude.{◌≡◌, ℕ, zero, suc, ◌+◌, ◌*◌, ◌/◌, ◌<◌, ◌≤ℤ◌, pos, ℤ, min, Bool, false, ◌==◌, if◌then◌else◌, List, [], ◌∷◌, ◌++◌, length, Option, Some, None, slice_get, slice_index}
 use Rattle.std.specs.List.{fold}
 use Rattle.duty_plan.specs.declared.duties.Step.{Step}
 use Rattle.duty_plan.specs.declared.labels.Label.{Label}
 use Rattle.duty_plan.specs.PartialDuties.{PartialDuty}
 use Rattle.duty_plan.specs.LabelLists.{Entry}
+use Rattle.duty_plan.specs.Values.{or_zero}
 use Rattle.duty_pricing.specs.declared.slots.Slot.{Slot}
 
 -- the partial duty of an entry, where there is one
@@ -54,13 +55,18 @@ pub record AreLinked (key link : Slot → ℕ) (heads : List ℕ) (slots : List 
 abbrev pub minute_of : Slot → ℕ
 minute_of slot = slot.label.clock.at
 
--- the cell of a place and an hour: a place has the 169 hours of a week's minutes, from 0 to 10,080
-abbrev pub cell_at : ℕ → ℕ → ℕ
-cell_at place hour = place * 169 + hour
+-- the hour of the week in which a work day began, from 0 to 168; the first where it began before the week
+abbrev pub day_hour : ℤ → ℕ
+day_hour from = min (or_zero from / 60) 168
 
--- the cell of a slot's label
+-- the cell of a place, of whether the driving period has the first part of a break, and of an hour: a place has the 169 hours of a
+-- week's minutes, from 0 to 10,080, for either
+abbrev pub cell_at : ℕ → Bool → ℕ → ℕ
+cell_at place half hour = (place * 2 + (if half then 1 else 0)) * 169 + hour
+
+-- the cell of a slot's label, by the hour in which its work day began
 abbrev pub cell_of : Slot → ℕ
-cell_of slot = cell_at slot.label.place (slot.label.clock.at / 60)
+cell_of slot = cell_at slot.label.place slot.label.clock.half (day_hour slot.label.clock.day_from)
 
 -- the slots of a minute and those of a cell are linked
 pub record AreChained (minutes cells : List ℕ) (slots : List Slot) : Type 0 where

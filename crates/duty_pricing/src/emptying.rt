@@ -13,8 +13,8 @@ use std::alloc::Global;
 /// The minutes at which a label may end: those of a week, from 0 to 10,080.
 const MINUTES: usize = WEEK_MINUTES as usize + 1;
 
-/// The cells of the most places of a week, each with the hours from 0 to 168.
-const CELLS: usize = 64 * 169;
+/// The cells of the most places of a week, two for each of the hours from 0 to 168.
+const CELLS: usize = 64 * 2 * 169;
 
 /// No label, and room for those of 2,048 chunks.
 pub(crate) fn make_store(alloc: Global) -> Result<LabelStore, Memory>

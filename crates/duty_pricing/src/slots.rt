@@ -13,7 +13,8 @@ pub struct Slot {
     pub parent: u32,
     /// One more than the number of the last earlier slot at the same minute; 0 where there is none.
     pub same_minute: u32,
-    /// One more than the number of the last earlier slot at the same place in the same hour; 0 where there is none.
+    /// One more than the number of the last earlier slot of the same cell: at the same place, with a work day that began in the same
+    /// hour; 0 where there is none.
     pub same_cell: u32,
 }
 

@@ -5,7 +5,7 @@ ghost use Rattle.duty_pricing.specs.Finding.{StoreHasRoom};
 ghost use Rattle.duty_pricing.specs.Holding.{IsFullSeat, IsOpenSeat};
 ghost use Rattle.duty_pricing.specs.Slots.{AddsSlot, AreChained};
 
-use crate::cells::cell;
+use crate::cells::{cell, day_hour};
 use crate::chunks::Chunks;
 use crate::claiming::keep;
 use crate::numbers::Numbers;
@@ -22,7 +22,7 @@ pub struct LabelStore {
     pub(crate) numbers: Numbers,
     /// For each minute one more than the number of its last slot, or 0.
     pub(crate) minutes: Vec<u32>,
-    /// The same for each hour of a place.
+    /// The same for each hour of a place in which work days begin.
     pub(crate) cells: Vec<u32>,
     /// The least value that is known of a lawful duty inside.
     pub(crate) known: Option<i64>,
@@ -73,7 +73,7 @@ impl LabelStore {
             × (length self.new.cells.items ≡ length self.old.cells.items) }
     {
         let minute = label.clock.at as usize;
-        let cell = cell(label.place, label.clock.at / 60) as usize;
+        let cell = cell(label.place, label.clock.half, day_hour(label)) as usize;
         let number = self.slots.len();
         let slot = Slot {
             label: *label,

@@ -12,9 +12,9 @@ returns c =
       none = c.in_ok-with_room.ensures;
       no_chunk = c.in_ok-with_room-2.ensures;
       unknown = refl;
-      chained = none-chained c.in_ok-vec.field-0.items c.in_ok-vec-2.field-0.items 10081 10816 minutes cells;
+      chained = none-chained c.in_ok-vec.field-0.items c.in_ok-vec-2.field-0.items 10081 21632 minutes cells;
       room = record {
         minutes = ap (λ (xs : List ℕ). length xs) minutes ∙ length-replicate {A = ℕ} 10081 0;
-        cells = ap (λ (xs : List ℕ). length xs) cells ∙ length-replicate {A = ℕ} 10816 0;
+        cells = ap (λ (xs : List ℕ). length xs) cells ∙ length-replicate {A = ℕ} 21632 0;
       };
     }
