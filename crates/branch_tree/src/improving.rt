@@ -2,6 +2,7 @@
 ghost use Rattle.std.specs.Prelude.{◌≡◌, ◌≤◌, length, IfOk};
 ghost use Rattle.duty_plan.specs.Duties.{IsCase};
 ghost use Rattle.branch_tree.specs.Growth.{IsKept};
+ghost use Rattle.branch_tree.specs.Searching.{HasNoNext};
 
 use crate::choosing::next_node;
 use crate::keeping::Kept;
@@ -23,6 +24,7 @@ pub(crate) fn improve_open<P: Pricer>(
     requires kept { IsKept case.now kept.plan kept.cost }
     ensures kept { IfOk result (λ better. IsKept case.now better.plan better.cost) }
     ensures falls { IfOk result (λ better. better.cost ≤ kept.cost) }
+    ensures stays { HasNoNext kept.cost tree.now → IfOk result (λ better. better ≡ kept) }
     ensures chunks { P.chunks pricer.new ≡ P.chunks pricer.old }
 {
     if next_node(tree, kept.cost).is_none() {
