@@ -19,7 +19,7 @@ use Rattle.price_master.specs.declared.pooling.Pooled.{Pooled}
 use Rattle.price_master.specs.Pools.{IsAmong, IsEntry, IsPool, IsPooledPlan, IsPooled, are_apart, orders_in, ways, ways_of_all}
 use Rattle.price_master.specs.Bids.{AreBids, AreBidsOfAll, CanSave, bid_by, home, turns_of}
 use Rattle.price_master.proofs.Chosen.{bits-of, whole-worth}
-use Rattle.price_master.proofs.Hoping.{zero-apart}
+use Rattle.price_master.proofs.Singles.{zero-apart}
 use Rattle.price_master.proofs.Once.{carried-known}
 
 -- ---- other plans

@@ -10,10 +10,10 @@ use Rattle.price_master.specs.declared.bidding.Bid.{Bid}
 use Rattle.price_master.specs.declared.pooling.Pooled.{Pooled}
 use Rattle.price_master.specs.Pools.{are_apart, orders_in, ways, ways_of_all}
 use Rattle.price_master.specs.Bids.{AreBids, AreBidsOfAll, turns_of}
-use Rattle.price_master.proofs.Hoping.{zero-apart}
+use Rattle.price_master.proofs.Singles.{zero-apart}
 
 -- the first term of a sum
-total-first : (f : ℕ → ℕ) (n : ℕ) → total_below f (suc n) ≡ f 0 + total_below (λ k. f (suc k)) n
+pub total-first : (f : ℕ → ℕ) (n : ℕ) → total_below f (suc n) ≡ f 0 + total_below (λ k. f (suc k)) n
 total-first f zero = refl
 total-first f (suc n) = omega (arith, total-first f n)
 

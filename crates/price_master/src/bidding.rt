@@ -17,7 +17,7 @@ pub(crate) const HOME: u32 = u32::MAX;
 
 /// A duty that a driver may be given, told by its place in the driver's list: the orders that it serves, order n as the bit
 /// n, and what it saves beside giving them away, in cents.
-#[derive(Clone, Copy)]
+#[derive(Clone, Copy, PartialEq, Eq)]
 pub(crate) struct Bid {
     pub place: u32,
     pub served: u128,

@@ -1,21 +1,18 @@
 // The search for the choice of one bid for each driver that saves most.
-ghost use Rattle.std.specs.Prelude.{◌≡◌, ◌⊎◌, ℕ, ◌+◌, ◌*◌, ◌<◌, ◌≤◌, true, false, List, length, drop, set, Some, slice_get, slice_index};
+ghost use Rattle.std.specs.Prelude.{◌≡◌, ◌⊎◌, ℕ, ◌+◌, ◌*◌, ◌<◌, ◌≤◌, true, false, List, length, drop, set, Some, slice_get, slice_index, bit_or, IfOk};
 ghost use Rattle.price_master.specs.declared.bidding.Bid.{Bid as GhostBid};
 ghost use Rattle.price_master.specs.Bids.{AreChosen, AreFixed, CanSave, HaveHomes, IsMostOf, turns_of};
-ghost use Rattle.price_master.specs.Shares.{AreAllSensible, AreShares};
+ghost use Rattle.price_master.specs.Classes.{AreClassBids, AreClasses, CanTake, free_of, tries_of};
+ghost use Rattle.price_master.specs.Sensible.{AreAllSensible};
 
+use crate::alike::{ClassBid, Classes, DRIVERS, class_bids, classes_of};
 use crate::bidding::{Bid, HOME};
-use crate::bounding::{Shares, are_apart, may_beat, shares_of};
-use minute_line::Many;
+use crate::hoping::{Places, are_apart, count_free, free_driver, hope_of};
+use minute_line::{Many, Memory};
+use std::alloc::Global;
 
 /// The turns after which the search is cut; a turn fixes one driver's bid.
 const TURNS: u32 = 20_000;
-
-/// The most drivers of a week.
-const DRIVERS: usize = 16;
-
-/// The places of the chosen bids.
-pub(crate) type Places = [u32; DRIVERS];
 
 /// The choice that saves most so far, and the turns that were taken.
 #[derive(Drop)]
@@ -94,52 +91,83 @@ fn best_single(bids: &[Many<Bid>]) -> Found
     found
 }
 
-/// Tries each choice of bids for the drivers from `driver` on, where the earlier ones' are fixed: these serve `served` and
-/// save `saving` together.
-fn explore(
-    bids: &[Many<Bid>],
-    shares: &Shares,
-    found: &mut Found,
-    driver: usize,
+/// Bids that are chosen for some drivers, where the others have none: the orders that they serve and what they save together.
+#[derive(Clone, Copy)]
+struct Choice {
+    places: Places,
     served: u128,
     saving: u64,
-    places: Places,
+}
+
+/// The choice with one bid more.
+fn with_bid(choice: &Choice, driver: usize, bid: Bid) -> Choice
+    requires driver { driver < 16 }
+    requires fits { choice.now.saving + bid.saving < 18446744073709551616 }
+    ensures places { result.places ≡ set choice.now.places driver bid.place }
+    ensures served { result.served ≡ bit_or choice.now.served bid.served }
+    ensures saving { result.saving ≡ choice.now.saving + bid.saving }
+{
+    Choice {
+        places: placed(choice.places, driver, bid.place),
+        served: choice.served | bid.served,
+        saving: choice.saving + bid.saving,
+    }
+}
+
+/// Tries each choice that has further bids of the list from `from` on, each for the first driver of its class that has none.
+fn explore(
+    bids: &[Many<Bid>],
+    classes: &Classes,
+    list: &[ClassBid],
+    found: &mut Found,
+    from: usize,
+    choice: Choice,
 )
     requires drivers { length bids.now ≤ 16 }
-    requires driver { driver ≤ length bids.now }
     requires bids { AreAllSensible bids.now }
-    requires shares { AreShares bids.now shares.now }
-    requires fixed { AreFixed bids.now places driver served saving }
-    requires fits { saving ≤ driver * 1099511627776 }
+    requires classes { AreClasses bids.now classes.now }
+    requires list { AreClassBids bids.now classes.now list.now }
+    requires from { from ≤ length list.now }
+    requires choice { AreFixed bids.now choice.places (length bids.now) choice.served choice.saving }
     requires found { AreChosen bids.now found.old.places found.old.saving }
     requires turns { found.old.turns ≤ 20000 }
     requires going { found.old.is_cut ≡ false }
     ensures found { AreChosen bids.now found.new.places found.new.saving }
     ensures grows { found.old.saving ≤ found.new.saving }
-    ensures best { found.new.is_cut ≡ false → (more : ℕ) → CanSave (drop driver bids.now) served more → saving + more ≤ found.new.saving }
+    ensures best { found.new.is_cut ≡ false → (more : ℕ) →
+        CanTake (drop from list.now) (free_of classes.now choice.places (length bids.now)) choice.served more → choice.saving + more ≤ found.new.saving }
     ensures limit { found.new.turns ≤ 20000 }
-    ensures turns { found.new.turns ≤ found.old.turns + turns_of (drop driver bids.now) served }
+    ensures turns { found.new.turns ≤ found.old.turns + tries_of (drop from list.now) (free_of classes.now choice.places (length bids.now)) choice.served }
     ensures cut { found.new.is_cut ≡ true → found.new.turns ≡ 20000 }
 {
-    if driver == bids.len() {
-        found.offer(saving, places);
-        return;
-    }
-    for bid in bids[driver].as_slice() {
-        let next = served | bid.served;
-        let sum = saving + bid.saving;
-        if are_apart(served, bid.served)
-            && may_beat(bids, shares, driver + 1, next, sum, found.saving)
-        {
-            if found.turns == TURNS {
-                found.is_cut = true;
-                return;
-            }
-            found.turns += 1;
-            let places = placed(places, driver, bid.place);
-            explore(bids, shares, found, driver + 1, next, sum, places);
-            if found.is_cut {
-                return;
+    found.offer(choice.saving, choice.places);
+    let free = count_free(&choice.places, bids.len());
+    for number in from..list.len() {
+        let one = list[number];
+        if choice.saving + free * one.bid.saving <= found.saving {
+            return;
+        }
+        let driver = free_driver(classes, &choice.places, bids.len(), one.class);
+        if driver < bids.len() && are_apart(choice.served, one.bid.served) {
+            let next = with_bid(&choice, driver, one.bid);
+            let hope = hope_of(
+                list,
+                number + 1,
+                classes,
+                &next.places,
+                bids.len(),
+                next.served,
+            );
+            if next.saving + hope > found.saving {
+                if found.turns == TURNS {
+                    found.is_cut = true;
+                    return;
+                }
+                found.turns += 1;
+                explore(bids, classes, list, found, number + 1, next);
+                if found.is_cut {
+                    return;
+                }
             }
         }
     }
@@ -147,17 +175,23 @@ fn explore(
 
 /// The choice of one bid for each driver that saves most, unless it is cut; in any case one that saves no less than any bid
 /// alone.
-pub(crate) fn best_choice(bids: &[Many<Bid>]) -> Found
+pub(crate) fn best_choice(alloc: Global, bids: &[Many<Bid>]) -> Result<Found, Memory>
     requires drivers { length bids.now ≤ 16 }
     requires homes { HaveHomes bids.now }
     requires bids { AreAllSensible bids.now }
-    ensures found { AreChosen bids.now result.places result.saving }
-    ensures best { result.is_cut ≡ false → (saving : ℕ) → CanSave bids.now 0 saving → saving ≤ result.saving }
-    ensures beats { (driver : ℕ) (of_driver : List GhostBid) → slice_get bids.now driver ≡ Some of_driver → IsMostOf of_driver result.saving }
-    ensures long { result.is_cut ≡ true → 20000 ≤ turns_of bids.now 0 }
+    ensures found { IfOk result (λ found. AreChosen bids.now found.places found.saving) }
+    ensures best { IfOk result (λ found. found.is_cut ≡ false → (saving : ℕ) → CanSave bids.now 0 saving → saving ≤ found.saving) }
+    ensures beats { IfOk result (λ found. (driver : ℕ) (of_driver : List GhostBid) → slice_get bids.now driver ≡ Some of_driver → IsMostOf of_driver found.saving) }
+    ensures long { IfOk result (λ found. found.is_cut ≡ true → 20000 ≤ turns_of bids.now 0) }
 {
-    let shares = shares_of(bids);
+    let classes = classes_of(bids);
+    let list = class_bids(alloc, bids, &classes)?;
     let mut found = best_single(bids);
-    explore(bids, &shares, &mut found, 0, 0, 0, homes());
-    found
+    let none = Choice {
+        places: homes(),
+        served: 0,
+        saving: 0,
+    };
+    explore(bids, &classes, list.as_slice(), &mut found, 0, none);
+    Ok(found)
 }

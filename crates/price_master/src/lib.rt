@@ -1,10 +1,11 @@
 //! Prices of orders, and the bounds that they give. Money is in whole cents; drivers, orders and rounds count from 0.
 #![tactic(auto)]
 
+mod alike;
 mod bidding;
-mod bounding;
 mod completing;
 mod exploring;
+mod hoping;
 mod laws;
 mod moving;
 mod picking;

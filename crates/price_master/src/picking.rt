@@ -8,7 +8,8 @@ ghost use Rattle.price_master.specs.Placing.{AreDutiesAt, IsDutyAt};
 
 use crate::bidding::bids_of;
 use crate::completing::{copied_duty, rest};
-use crate::exploring::{Places, best_choice};
+use crate::exploring::best_choice;
+use crate::hoping::Places;
 use crate::pooling::{Pool, Pooled};
 use duty_plan::{Case, Duty, Plan, check_plan};
 use minute_line::{Many, Memory};
@@ -68,7 +69,7 @@ pub fn pick(alloc: Global, case: &Case, pool: &Pool) -> Result<Picked, Memory>
     ensures { IfOk result (λ picked. IsPicked case.now pool.now picked) }
 {
     let bids = bids_of(alloc, case, pool)?;
-    let found = best_choice(bids.as_slice());
+    let found = best_choice(alloc, bids.as_slice())?;
     let plan = plan_at(alloc, case, pool, found.places)?;
     let cost = match check_plan(case, &plan) {
         Ok(cost) => cost,

@@ -1,0 +1,281 @@
+-- The bids of all classes in one list, by falling savings.
+use Rattle.std.proofs.Common.{◌≡◌, ◌≢◌, ◌⊎◌, inl, inr, ℕ, zero, suc, ◌+◌, ◌-◌, ◌<◌, ◌≤◌, Bool, true, false, cond, eqb, nat_lt, List, [], ◌∷◌, length, drop, take, get_or, set, refl, ap, sym, ◌∙◌, subst, arith, Some, slice_get, get_or-set_same, get_or-set_other}
+use Rattle.std.specs.List.{insert, sum_by}
+use Rattle.std.proofs.lemmas.Bool.Decides.{nat_tests}
+use Rattle.std.proofs.lemmas.List.Sums.{sum_by-insert, sum_by_more, sum_by-take-le}
+use Rattle.std.proofs.lemmas.Option.{slice_get_within, get_or_from_slice_get}
+use Rattle.price_master.specs.declared.bidding.Bid.{Bid}
+use Rattle.price_master.specs.declared.alike.ClassBid.{ClassBid}
+use Rattle.price_master.specs.Bids.{IsIn}
+use Rattle.price_master.specs.Classes.{AddsBids, AreClassBids, AreClasses, AreFalling, IsFirstAlike, IsListed, sum_class, sum_saving}
+use Rattle.price_master.proofs.Carried.{get-below}
+use Rattle.price_master.proofs.Free.{same-tests}
+use Rattle.price_master.proofs.Inserting.{inserted-at, inserted-back, inserted-old}
+use Rattle.price_master.proofs.Lookups.{length-set_lem, same-or-not}
+
+-- ---- classes
+
+-- the classes of the first n drivers
+pub record AreClassesTo (bids : List (List Bid)) (classes : List ℕ) (n : ℕ) : Type 0 where
+  pub size : length classes ≡ 16
+  pub firsts : (d : ℕ) → d < n → IsFirstAlike bids d (get_or classes d 0)
+
+pub classes-more : (bids : List (List Bid)) (classes : List ℕ) (n class : ℕ) → AreClassesTo bids classes n → IsFirstAlike bids n class → n < 16 →
+    AreClassesTo bids (set classes n class) (n + 1)
+classes-more bids classes n class a first few = record {
+  size = length-set_lem classes n class ∙ a.size;
+  firsts = λ d l. on d l (same-or-not d n);
+}
+  where
+    here : get_or (set classes n class) n 0 ≡ class
+    here = get_or-set_same classes n class 0 (omega (arith, a.size, few))
+
+    on : (d : ℕ) → d < n + 1 → (d ≡ n) ⊎ (d ≢ n) → IsFirstAlike bids d (get_or (set classes n class) d 0)
+    on d l (inl e) =
+        subst (λ (k : ℕ). IsFirstAlike bids k (get_or (set classes n class) k 0)) (sym e) (subst (λ (c : ℕ). IsFirstAlike bids n c) (sym here) first)
+    on d l (inr other) =
+        subst (λ (c : ℕ). IsFirstAlike bids d c) (sym (get_or-set_other classes n d class 0 other)) (a.firsts d (omega arith))
+
+-- a class is its own
+pub class-own : (bids : List (List Bid)) (classes : List ℕ) (d : ℕ) → AreClasses bids classes → d < length bids →
+    get_or classes (get_or classes d 0) 0 ≡ get_or classes d 0
+class-own bids classes d a l =
+    let mine = a d l in
+    let low = mine.low in
+    let its = a (get_or classes d 0) (omega (arith, low, l)) in
+    by_place (same-or-not (get_or classes (get_or classes d 0) 0) (get_or classes d 0)) its.low
+    (λ below. mine.earlier (get_or classes (get_or classes d 0) 0) below (its.same ∙ mine.same))
+  where
+    by_place : {a b : ℕ} → (a ≡ b) ⊎ (a ≢ b) → a ≤ b → (a < b → ⊥) → a ≡ b
+    by_place (inl e) low never = e
+    by_place (inr d) low never = absurd (never (omega (arith, d, low)))
+
+-- ---- one bid more, in its place
+
+abbrev pub InsertedPlace : {X : Type 0} → List X → ℕ → X → ℕ → X → Type 0
+InsertedPlace xs i x k y = ((k < i) × (slice_get xs k ≡ Some y)) ⊎ (((k ≡ i) × (x ≡ y)) ⊎ ((j : ℕ) × (i ≤ j) × (k ≡ suc j) × (slice_get xs j ≡ Some y)))
+
+inserted-place : {X : Type 0} (xs : List X) (i : ℕ) (x : X) (k : ℕ) (y : X) → i ≤ length xs → slice_get (insert xs i x) k ≡ Some y → InsertedPlace xs i x k y
+inserted-place xs zero x zero y l h = inr (inl (refl, let g = h in cc))
+inserted-place xs zero x (suc k) y l h = inr (inr (k, omega arith, refl, h))
+inserted-place [] (suc i) x k y l h = absurd (omega arith)
+inserted-place (z ∷ zs) (suc i) x zero y l h = inl (omega arith, h)
+inserted-place {X = X} (z ∷ zs) (suc i) x (suc k) y l h = by_rest (inserted-place zs i x k y (omega arith) h)
+  where
+    by_rest : InsertedPlace zs i x k y → InsertedPlace (z ∷ zs) (suc i) x (suc k) y
+    by_rest (inl g) = inl (omega (arith, g.0), g.1)
+    by_rest (inr (inl g)) = inr (inl (ap suc g.0, g.1))
+    by_rest (inr (inr g)) = inr (inr (suc g.0, omega (arith, g.1), ap suc g.2, g.3))
+
+falling-insert : (list : List ClassBid) (p : ℕ) (x : ClassBid) → p ≤ length list → AreFalling list →
+    ((k : ℕ) (one : ClassBid) → k < p → slice_get list k ≡ Some one → x.bid.saving ≤ one.bid.saving) →
+    ((one : ClassBid) → slice_get list p ≡ Some one → one.bid.saving ≤ x.bid.saving) → AreFalling (insert list p x)
+falling-insert list p x room falls before here i k one later l at is =
+    by_places (inserted-place list p x i one room at) (inserted-place list p x k later room is)
+  where
+    by_places : InsertedPlace list p x i one → InsertedPlace list p x k later → later.bid.saving ≤ one.bid.saving
+    by_places (inl a) (inl b) = falls i k one later l a.1 b.1
+    by_places (inl a) (inr (inl b)) = subst (λ (y : ClassBid). y.bid.saving ≤ one.bid.saving) b.1 (before i one a.0 a.1)
+    by_places (inl a) (inr (inr (j, low, e, there))) = falls i j one later (omega (arith, a.0, low)) a.1 there
+    by_places (inr (inl a)) (inl b) = absurd (omega (arith, a.0, b.0, l))
+    by_places (inr (inl a)) (inr (inl b)) = let same : one ≡ later = sym a.1 ∙ b.1 in subst (λ (y : ClassBid). y.bid.saving ≤ one.bid.saving) same (omega arith)
+    by_places (inr (inl a)) (inr (inr (j, low, e, there))) =
+        let found = get-below list p (omega (arith, low, slice_get_within list j later there)) in
+        let first = falls p j found.0 later low found.1 there in
+        let top = here found.0 found.1 in
+        subst (λ (y : ClassBid). later.bid.saving ≤ y.bid.saving) a.1 (omega (arith, first, top))
+    by_places (inr (inr (j, low, e, there))) (inl b) = absurd (omega (arith, b.0, low, e, l))
+    by_places (inr (inr (j, low, e, there))) (inr (inl b)) = absurd (omega (arith, b.0, low, e, l))
+    by_places (inr (inr (j, low, e, there))) (inr (inr (m, high, f, where_it))) = falls j m one later (omega (arith, e, f, l)) there where_it
+
+-- ---- the bids of one class, one after another
+
+pub record AddsSoFar (class n : ℕ) (bids : List Bid) (old new : List ClassBid) : Type 0 where
+  pub falling : AreFalling new
+  pub each : (k : ℕ) (one : ClassBid) → slice_get new k ≡ Some one →
+      ((j : ℕ) × (slice_get old j ≡ Some one)) ⊎ ((one.class ≡ class) × (0 < one.bid.saving) × IsIn bids one.bid)
+  pub stays : (k : ℕ) (one : ClassBid) → slice_get old k ≡ Some one → (j : ℕ) × (slice_get new j ≡ Some one)
+  pub all : (k : ℕ) (bid : Bid) → k < n → slice_get bids k ≡ Some bid → 0 < bid.saving → IsListed new class bid
+  pub few : (f : ℕ → ℕ) → sum_class f class new ≤ sum_class f class old + sum_saving f (take n bids)
+  pub others : (f : ℕ → ℕ) (other : ℕ) → (other ≡ class → ⊥) → sum_class f other new ≤ sum_class f other old
+
+pub adds-none : (class : ℕ) (bids : List Bid) (list : List ClassBid) → AreFalling list → AddsSoFar class 0 bids list list
+adds-none class bids list falls = record {
+  falling = falls;
+  each = λ k one at. inl (k, at);
+  stays = λ k one at. (k, at);
+  all = λ k bid l at some. absurd (omega arith);
+  few = λ f. omega arith;
+  others = λ f other d. omega arith;
+}
+
+saving-more : (f : ℕ → ℕ) (bids : List Bid) (n : ℕ) (bid : Bid) → slice_get bids n ≡ Some bid →
+    sum_saving f (take (n + 1) bids) ≡ sum_saving f (take n bids) + cond (nat_lt 0 bid.saving) (f bid.served) 0
+saving-more f bids n bid at =
+    sum_by_more (λ (b : Bid). cond (nat_lt 0 b.saving) (f b.served) 0) bids n bid (slice_get_within bids n bid at) ∙
+    ap (λ (b : Bid). sum_saving f (take n bids) + cond (nat_lt 0 b.saving) (f b.served) 0) (get_or_from_slice_get bids n bid bid at)
+
+-- a bid that saves nothing
+pub adds-skip : (class n : ℕ) (bids : List Bid) (old new : List ClassBid) (bid : Bid) → AddsSoFar class n bids old new → slice_get bids n ≡ Some bid →
+    bid.saving ≤ 0 → AddsSoFar class (n + 1) bids old new
+adds-skip class n bids old new bid a at none = record {
+  falling = a.falling;
+  each = a.each;
+  stays = a.stays;
+  all = λ k other l is some. by_place k other l is some (same-or-not k n);
+  few = λ f. omega (arith, a.few f, saving-more f bids n bid at);
+  others = a.others;
+}
+  where
+    by_place : (k : ℕ) (other : Bid) → k < n + 1 → slice_get bids k ≡ Some other → 0 < other.saving → (k ≡ n) ⊎ (k ≢ n) → IsListed new class other
+    by_place k other l is some (inr d) = a.all k other (omega arith) is some
+    by_place k other l is some (inl e) =
+        let now : slice_get bids n ≡ Some other = ap (slice_get bids) (sym e) ∙ is in
+        let same : bid ≡ other = cc in
+        let its : bid.saving ≡ other.saving = ap (λ (b : Bid). b.saving) same in
+        absurd (omega (arith, some, none, its))
+
+abbrev pub of_class : ℕ → Bid → ClassBid
+of_class class bid = record { class = class; bid = bid }
+
+-- a bid that saves
+pub adds-one : (class n p : ℕ) (bids : List Bid) (old new more : List ClassBid) (bid : Bid) → AddsSoFar class n bids old new → slice_get bids n ≡ Some bid →
+    0 < bid.saving → p ≤ length new → ((k : ℕ) (one : ClassBid) → k < p → slice_get new k ≡ Some one → bid.saving ≤ one.bid.saving) →
+    ((one : ClassBid) → slice_get new p ≡ Some one → one.bid.saving ≤ bid.saving) → more ≡ insert new p (of_class class bid) →
+    AddsSoFar class (n + 1) bids old more
+adds-one class n p bids old new more bid a at saves room before here is =
+    subst (λ (l : List ClassBid). AddsSoFar class (n + 1) bids old l) (sym is) (record {
+      falling = falling-insert new p x room a.falling before here;
+      each = λ k one there. each one (inserted-back new p x k one room there);
+      stays = λ k one there. let now = a.stays k one there in inserted-old new p x now.0 one room now.1;
+      all = λ k other l there some. by_place k other l there some (same-or-not k n);
+      few = λ f. few f;
+      others = λ f other d. others f other d;
+    })
+  where
+    x : ClassBid
+    x = of_class class bid
+
+    each : (one : ClassBid) → (x ≡ one) ⊎ ((j : ℕ) × (slice_get new j ≡ Some one)) →
+        ((j : ℕ) × (slice_get old j ≡ Some one)) ⊎ ((one.class ≡ class) × (0 < one.bid.saving) × IsIn bids one.bid)
+    each one (inr g) = a.each g.0 one g.1
+    each one (inl e) =
+        subst (λ (y : ClassBid). ((j : ℕ) × (slice_get old j ≡ Some y)) ⊎ ((y.class ≡ class) × (0 < y.bid.saving) × IsIn bids y.bid)) e (inr (refl, saves, (n, at)))
+
+    by_place : (k : ℕ) (other : Bid) → k < n + 1 → slice_get bids k ≡ Some other → 0 < other.saving → (k ≡ n) ⊎ (k ≢ n) → IsListed (insert new p x) class other
+    by_place k other l there some (inr d) =
+        let now = a.all k other (omega arith) there some in inserted-old new p x now.0 (of_class class other) room now.1
+    by_place k other l there some (inl e) =
+        let now : slice_get bids n ≡ Some other = ap (slice_get bids) (sym e) ∙ there in
+        let same : bid ≡ other = cc in
+        (p, inserted-at new p x room ∙ ap (λ (b : Bid). Some (of_class class b)) same)
+
+    few : (f : ℕ → ℕ) → sum_class f class (insert new p x) ≤ sum_class f class old + sum_saving f (take (n + 1) bids)
+    few f =
+        let yes : eqb class class ≡ true = grind (arith, nat_tests) in
+        let mine : cond (eqb class class) (f bid.served) 0 ≡ f bid.served = ap (λ (b : Bool). cond b (f bid.served) 0) yes in
+        let some : nat_lt 0 bid.saving ≡ true = grind (arith, nat_tests) in
+        let its : cond (nat_lt 0 bid.saving) (f bid.served) 0 ≡ f bid.served = ap (λ (b : Bool). cond b (f bid.served) 0) some in
+        omega (arith, sum_by-insert (λ (y : ClassBid). cond (eqb y.class class) (f y.bid.served) 0) new p x, a.few f, mine, its, saving-more f bids n bid at)
+
+    others : (f : ℕ → ℕ) (other : ℕ) → (other ≡ class → ⊥) → sum_class f other (insert new p x) ≤ sum_class f other old
+    others f other d =
+        let differs : class ≢ other = λ z. d (sym z) in
+        let no : eqb class other ≡ false = grind (arith, nat_tests) in
+        let none : cond (eqb class other) (f bid.served) 0 ≡ 0 = ap (λ (b : Bool). cond b (f bid.served) 0) no in
+        omega (arith, sum_by-insert (λ (y : ClassBid). cond (eqb y.class other) (f y.bid.served) 0) new p x, a.others f other d, none)
+
+pub adds-done : (class n : ℕ) (bids : List Bid) (old new : List ClassBid) → AddsSoFar class n bids old new → length bids ≤ n → AddsBids class bids old new
+adds-done class n bids old new a l = record {
+  falling = a.falling;
+  each = a.each;
+  stays = a.stays;
+  all = λ k bid at some. a.all k bid (omega (arith, slice_get_within bids k bid at)) at some;
+  few = λ f. omega (arith, a.few f, sum_by-take-le (λ (b : Bid). cond (nat_lt 0 b.saving) (f b.served) 0) bids n);
+  others = a.others;
+}
+
+-- ---- one class after another
+
+pub record AreListedTo (bids : List (List Bid)) (classes : List ℕ) (n : ℕ) (list : List ClassBid) : Type 0 where
+  pub falling : AreFalling list
+  pub each : (k : ℕ) (one : ClassBid) → slice_get list k ≡ Some one →
+      (of_one : List Bid) × (slice_get bids one.class ≡ Some of_one) × (0 < one.bid.saving) × IsIn of_one one.bid
+  pub all : (d number : ℕ) (of_driver : List Bid) (bid : Bid) → d < n → get_or classes d 0 ≡ d → slice_get bids d ≡ Some of_driver →
+      slice_get of_driver number ≡ Some bid → 0 < bid.saving → IsListed list d bid
+  pub few : (f : ℕ → ℕ) (d : ℕ) (of_driver : List Bid) → slice_get bids d ≡ Some of_driver → sum_class f d list ≤ sum_saving f of_driver
+  pub none : (f : ℕ → ℕ) (d : ℕ) → n ≤ d → sum_class f d list ≡ 0
+
+pub listed-none : (bids : List (List Bid)) (classes : List ℕ) → AreListedTo bids classes 0 []
+listed-none bids classes = record {
+  falling = λ i k one later l at is. cc;
+  each = λ k one at. cc;
+  all = λ d number of_driver bid l own at is some. absurd (omega arith);
+  few = λ f d of_driver at. omega arith;
+  none = λ f d l. refl;
+}
+
+pub listed-skip : (bids : List (List Bid)) (classes : List ℕ) (n : ℕ) (list : List ClassBid) → AreListedTo bids classes n list → get_or classes n 0 ≢ n →
+    AreListedTo bids classes (n + 1) list
+listed-skip bids classes n list a other = record {
+  falling = a.falling;
+  each = a.each;
+  all = λ d number of_driver bid l own at is some. by_place d number of_driver bid l own at is some (same-or-not d n);
+  few = a.few;
+  none = λ f d l. a.none f d (omega arith);
+}
+  where
+    by_place : (d number : ℕ) (of_driver : List Bid) (bid : Bid) → d < n + 1 → get_or classes d 0 ≡ d → slice_get bids d ≡ Some of_driver →
+        slice_get of_driver number ≡ Some bid → 0 < bid.saving → (d ≡ n) ⊎ (d ≢ n) → IsListed list d bid
+    by_place d number of_driver bid l own at is some (inr e) = a.all d number of_driver bid (omega arith) own at is some
+    by_place d number of_driver bid l own at is some (inl e) = absurd (other (ap (λ (k : ℕ). get_or classes k 0) (sym e) ∙ (own ∙ e)))
+
+pub listed-more : (bids : List (List Bid)) (classes : List ℕ) (n : ℕ) (list more : List ClassBid) (mine : List Bid) → AreListedTo bids classes n list →
+    slice_get bids n ≡ Some mine → AddsBids n mine list more → AreListedTo bids classes (n + 1) more
+listed-more bids classes n list more mine a there adds = record {
+  falling = adds.falling;
+  each = λ k one at. each one (adds.each k one at);
+  all = λ d number of_driver bid l own at is some. by_place d number of_driver bid l own at is some (same-or-not d n);
+  few = λ f d of_driver at. few f d of_driver at (same-or-not d n);
+  none = λ f d l. omega (arith, adds.others f d (λ e. absurd (omega arith)), a.none f d (omega arith));
+}
+  where
+    each : (one : ClassBid) → ((j : ℕ) × (slice_get list j ≡ Some one)) ⊎ ((one.class ≡ n) × (0 < one.bid.saving) × IsIn mine one.bid) →
+        (of_one : List Bid) × (slice_get bids one.class ≡ Some of_one) × (0 < one.bid.saving) × IsIn of_one one.bid
+    each one (inl g) = a.each g.0 one g.1
+    each one (inr g) = (mine, ap (slice_get bids) g.0 ∙ there, g.1, g.2)
+
+    by_place : (d number : ℕ) (of_driver : List Bid) (bid : Bid) → d < n + 1 → get_or classes d 0 ≡ d → slice_get bids d ≡ Some of_driver →
+        slice_get of_driver number ≡ Some bid → 0 < bid.saving → (d ≡ n) ⊎ (d ≢ n) → IsListed more d bid
+    by_place d number of_driver bid l own at is some (inr e) =
+        let old = a.all d number of_driver bid (omega arith) own at is some in adds.stays old.0 (of_class d bid) old.1
+    by_place d number of_driver bid l own at is some (inl e) =
+        let now : slice_get bids n ≡ Some of_driver = ap (slice_get bids) (sym e) ∙ at in
+        let same : mine ≡ of_driver = cc in
+        let its : slice_get mine number ≡ Some bid = ap (λ (xs : List Bid). slice_get xs number) same ∙ is in
+        subst (λ (k : ℕ). IsListed more k bid) (sym e) (adds.all number bid its some)
+
+    few : (f : ℕ → ℕ) (d : ℕ) (of_driver : List Bid) → slice_get bids d ≡ Some of_driver → (d ≡ n) ⊎ (d ≢ n) → sum_class f d more ≤ sum_saving f of_driver
+    few f d of_driver at (inr e) = omega (arith, adds.others f d e, a.few f d of_driver at)
+    few f d of_driver at (inl e) =
+        let now : slice_get bids n ≡ Some of_driver = ap (slice_get bids) (sym e) ∙ at in
+        let same : mine ≡ of_driver = cc in
+        let its : sum_saving f mine ≡ sum_saving f of_driver = ap (sum_saving f) same in
+        let here : sum_class f n more ≤ sum_saving f of_driver = omega (arith, adds.few f, a.none f n (omega arith), its) in
+        subst (λ (k : ℕ). sum_class f k more ≤ sum_saving f of_driver) (sym e) here
+
+pub listed-done : (bids : List (List Bid)) (classes : List ℕ) (n : ℕ) (list : List ClassBid) → AreClasses bids classes → AreListedTo bids classes n list →
+    length bids ≤ n → AreClassBids bids classes list
+listed-done bids classes n list a listed l = record {
+  falling = listed.falling;
+  each = listed.each;
+  all = λ d number of_driver bid at is some. all d number of_driver bid at is some (slice_get_within bids d of_driver at);
+  few = λ f d of_driver at. listed.few f (get_or classes d 0) of_driver ((a d (slice_get_within bids d of_driver at)).same ∙ at);
+}
+  where
+    all : (d number : ℕ) (of_driver : List Bid) (bid : Bid) → slice_get bids d ≡ Some of_driver → slice_get of_driver number ≡ Some bid → 0 < bid.saving →
+        d < length bids → IsListed list (get_or classes d 0) bid
+    all d number of_driver bid at is some inside =
+        let mine = a d inside in
+        let low = mine.low in
+        listed.all (get_or classes d 0) number of_driver bid (omega (arith, low, inside, l)) (class-own bids classes d a inside) (mine.same ∙ at) is some
