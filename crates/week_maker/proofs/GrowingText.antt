@@ -20,13 +20,15 @@ unfolding rows_for_each
 rows-none text rows_of = refl
 
 -- the rows of one number more
-pub rows-more : (text : List ℕ) (rows_of : ℕ → List Row) (i : ℕ) (rows : List Row) (now next : List ℕ) → now ≡ with_rows text (rows_for_each i rows_of)
-    → rows ≡ rows_of (i + 1) → next ≡ with_rows now rows → next ≡ with_rows text (rows_for_each (i + 1) rows_of)
+pub rows-more : (text : List ℕ) (rows_of : ℕ → List Row) (i : ℕ) (rows : List Row) (now next : List ℕ)
+    → now ≡ with_rows text (rows_for_each i rows_of) → rows ≡ rows_of (i + 1) → next ≡ with_rows now rows
+    → next ≡ with_rows text (rows_for_each (i + 1) rows_of)
 unfolding rows_for_each
 rows-more text rows_of i rows now next t r n = n ∙ rw (t, r, add-one) (sym (then-rows text (rows_for_each i rows_of) (rows_of (suc i))))
 
 -- fields, each after a comma
-fields-after : (text : List ℕ) (fields : Row) → fold (λ before field. before ++ 44 ∷ field) text fields ≡ text ++ flat_map (λ field. 44 ∷ field) fields
+fields-after : (text : List ℕ) (fields : Row)
+    → fold (λ before field. before ++ 44 ∷ field) text fields ≡ text ++ flat_map (λ field. 44 ∷ field) fields
 fields-after text [] = sym (append-nil text)
 fields-after text (field ∷ fields) =
     fields-after (text ++ 44 ∷ field) fields ∙ append_assoc text (44 ∷ field) (flat_map (λ more. 44 ∷ more) fields)
@@ -43,13 +45,15 @@ pub state-more : (seed i state next : ℕ) → state ≡ state_after seed i → 
 state-more seed i state next s n = n ∙ rw (s, add-one) refl
 
 -- the number that is drawn next, as the draw of the next number
-pub drawn-next : (seed i size state result : ℕ) → state ≡ state_after seed i → result ≡ drawn state 0 size → result ≡ drawn seed (i + 1 - 1) size
+pub drawn-next : (seed i size state result : ℕ) → state ≡ state_after seed i → result ≡ drawn state 0 size
+    → result ≡ drawn seed (i + 1 - 1) size
 drawn-next seed i size state result s r =
     let back : i + 1 - 1 ≡ i = omega arith in
     r ∙ rw (s, back) refl
 
 -- the state after one order more
-pub order-state-more : (seed i state next : ℕ) → state ≡ state_after seed (7 * i) → next ≡ state_after state 7 → next ≡ state_after seed (7 * (i + 1))
+pub order-state-more : (seed i state next : ℕ) → state ≡ state_after seed (7 * i) → next ≡ state_after state 7
+    → next ≡ state_after seed (7 * (i + 1))
 order-state-more seed i state next s n =
     let seven : 7 * (i + 1) ≡ suc (suc (suc (suc (suc (suc (suc (7 * i))))))) = omega arith in
     n ∙ rw (s, seven) refl

@@ -27,8 +27,8 @@ length-rows (suc n) each rows_of all =
     grind (arith, front, joined, last)
 
 -- the length of six lists in one
-six-lengths : (a b c d e f : List Row) (l m n o p q : ℕ) → length a ≡ l → length b ≡ m → length c ≡ n → length d ≡ o → length e ≡ p → length f ≡ q
-    → length (a ++ (b ++ (c ++ (d ++ (e ++ f))))) ≡ l + (m + (n + (o + (p + q))))
+six-lengths : (a b c d e f : List Row) (l m n o p q : ℕ) → length a ≡ l → length b ≡ m → length c ≡ n → length d ≡ o
+    → length e ≡ p → length f ≡ q → length (a ++ (b ++ (c ++ (d ++ (e ++ f))))) ≡ l + (m + (n + (o + (p + q))))
 six-lengths a b c d e f l m n o p q al bl cl dl el fl =
     rw (
       length-append a (b ++ (c ++ (d ++ (e ++ f)))),

@@ -6,7 +6,7 @@ use Rattle.minute_line.specs.DateWriting.{AreDaysOf}
 use Rattle.minute_line.proofs.StampTexts.{stamp_is_minute, seven_days}
 use Rattle.week_maker.specs.Draws.{state_after}
 use Rattle.week_maker.specs.MadeWeeks.{week_dates, week_monday, rest_end, order_of, order_seed}
-use Rattle.week_maker.specs.Ranges.{IsWeekReadBack}
+use Rattle.week_maker.specs.Stamps.{IsWeekReadBack}
 use Rattle.week_maker.proofs.Ranges.{order-in-range}
 
 monday-text : IsMondayText week_monday
@@ -16,8 +16,8 @@ monday-text = (refl, search rules, refl)
 are-days : AreDaysOf (text_day week_monday) week_dates
 unfolding IsDateText days_from_civil day_count days_of_years days_of_months weekday_number
 are-days =
-    seven_days (text_day week_monday) (codes "2026-03-02") (codes "2026-03-03") (codes "2026-03-04") (codes "2026-03-05") (codes "2026-03-06")
-    (codes "2026-03-07") (codes "2026-03-08")
+    seven_days (text_day week_monday) (codes "2026-03-02") (codes "2026-03-03") (codes "2026-03-04") (codes "2026-03-05")
+    (codes "2026-03-06") (codes "2026-03-07") (codes "2026-03-08")
     (refl, search rules, refl)
     (refl, search rules, refl)
     (refl, search rules, refl)
@@ -37,7 +37,8 @@ week-read-back seed = record {
   rest = rest-ended;
   opens =
       λ number. let order = order-in-range (state_after (order_seed seed) (7 * (number - 1))) in
-      stamp_is_minute (text_day week_monday) week_dates (order_of (order_seed seed) number).opens are-days (omega (arith, order.window, order.week));
+      stamp_is_minute (text_day week_monday) week_dates (order_of (order_seed seed) number).opens are-days
+      (omega (arith, order.window, order.week));
   closes =
       λ number. let order = order-in-range (state_after (order_seed seed) (7 * (number - 1))) in
       stamp_is_minute (text_day week_monday) week_dates (order_of (order_seed seed) number).closes are-days (omega (arith, order.week));

@@ -2,3 +2,4 @@ pub mod Draws
 pub mod Rows
 pub mod MadeWeeks
 pub mod Ranges
+pub mod Stamps

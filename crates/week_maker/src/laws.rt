@@ -1,7 +1,8 @@
 // Laws on made weeks, whose functions do nothing.
 ghost use Rattle.std.specs.Prelude.{◌≡◌, ◌+◌, ◌<◌, ℕ};
 ghost use Rattle.week_maker.specs.Draws.{state_after, drawn};
-ghost use Rattle.week_maker.specs.Ranges.{IsWeekInRange, IsWeekReadBack};
+ghost use Rattle.week_maker.specs.Ranges.{IsWeekInRange};
+ghost use Rattle.week_maker.specs.Stamps.{IsWeekReadBack};
 
 /// The laws of draws: each is below its size, and draws from a state that others have left go on with the numbers after theirs. So the
 /// legs from the depot take draws 0 to 11 of a seed, the legs between places draws 12 to 22, and order i the seven from 23 + 7 * (i - 1).

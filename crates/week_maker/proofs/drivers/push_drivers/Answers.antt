@@ -7,4 +7,5 @@ pub loop-before-init : goal.loop-before-init
 loop-before-init c = rows-none c.args.text.now driver_rows
 
 pub loop-before-preserved : goal.loop-before-preserved
-loop-before-preserved c = rows-more c.args.text.now driver_rows c.loop-before.before _ _ _ c.loop-before.invariant refl c.in_ok-push_driver.ensures
+loop-before-preserved c =
+    rows-more c.args.text.now driver_rows c.loop-before.before _ _ _ c.loop-before.invariant refl c.in_ok-push_driver.ensures

@@ -9,5 +9,5 @@ loop-before-init c = c.in_ok-push_place_row.ensures ∙ rows-none (with_row c.ar
 
 pub loop-before-preserved : goal.loop-before-preserved
 loop-before-preserved c =
-    rows-more (with_row c.args.text.now (place_row 0)) (λ place. place_row place ∷ []) c.loop-before.before _ _ _ c.loop-before.invariant refl
-    c.in_ok-push_place_row-2.ensures
+    rows-more (with_row c.args.text.now (place_row 0)) (λ place. place_row place ∷ []) c.loop-before.before _ _ _
+    c.loop-before.invariant refl c.in_ok-push_place_row-2.ensures

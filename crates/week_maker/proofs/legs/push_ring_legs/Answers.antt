@@ -12,6 +12,7 @@ loop-before-preserved c =
     let i = c.loop-before.before in
     let was = c.loop-before.invariant in
     let minutes = drawn-next seed i 60 c.loop-before.draws.state c.draw-minutes.result was.state c.draw-minutes.ensures.number in record {
-      text = rows-more c.args.text.now (ring_legs seed) i _ _ _ was.text (ap (λ (m : ℕ). both_ways (i + 1) (i + 1 + 1) (20 + m)) minutes) c.in_ok-push_both_ways.ensures;
+      text = rows-more c.args.text.now (ring_legs seed) i _ _ _ was.text
+          (ap (λ (m : ℕ). both_ways (i + 1) (i + 1 + 1) (20 + m)) minutes) c.in_ok-push_both_ways.ensures;
       state = state-more seed i c.loop-before.draws.state _ was.state c.draw-minutes.ensures.state;
     }

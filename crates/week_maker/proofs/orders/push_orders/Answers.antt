@@ -18,6 +18,7 @@ loop-before-preserved c =
     let was = c.loop-before.invariant in
     let order = c.draw_order-order.ensures.order ∙ order-next seed i c.loop-before.draws.state was.state in record {
       text =
-          rows-more c.args.text.now (order_rows seed) i _ _ _ was.text (ap (λ (o : MadeOrder). order_row (i + 1) o ∷ []) order) c.in_ok-push_order.ensures;
+          rows-more c.args.text.now (order_rows seed) i _ _ _ was.text
+          (ap (λ (o : MadeOrder). order_row (i + 1) o ∷ []) order) c.in_ok-push_order.ensures;
       state = order-state-more seed i c.loop-before.draws.state _ was.state c.draw_order-order.ensures.state;
     }

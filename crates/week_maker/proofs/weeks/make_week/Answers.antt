@@ -1,5 +1,7 @@
-use Rattle.std.proofs.Common.{sym}
-use Rattle.week_maker.proofs.WholeText.{whole-text}
+use Rattle.std.proofs.Common.{[], ◌∷◌, sym}
+use Rattle.week_maker.specs.Rows.{rows_for_each}
+use Rattle.week_maker.specs.MadeWeeks.{week_row, place_row, hub_legs, ring_legs, ring_seed, driver_rows, order_rows, order_seed}
+use Rattle.week_maker.proofs.WholeText.{six-parts}
 use Rattle.week_maker.proofs.weeks.make_week.Goals as goal
 
 pub returns : goal.returns
@@ -14,4 +16,8 @@ returns c =
       c.in_ok-push_places.ensures,
       c.in_ok-extend_from_slice.ensures.ok,
       c.new-text.ensures,
-    ) (sym (whole-text c.args.seed))
+    ) (sym (
+    six-parts [] (week_row ∷ place_row 0 ∷ []) (rows_for_each 12 (λ place. place_row place ∷ [])) (rows_for_each 12 (hub_legs c.args.seed))
+    (rows_for_each 11 (ring_legs (ring_seed c.args.seed))) (rows_for_each 12 driver_rows)
+    (rows_for_each 40 (order_rows (order_seed c.args.seed)))
+    ))
