@@ -1,5 +1,5 @@
 -- Drawn numbers, counted over the seats of a list or over the numbers below its length.
-use Rattle.std.proofs.Common.{◌≡◌, ℕ, zero, suc, ◌+◌, ◌<◌, cond, ltb, List, [], ◌∷◌, ◌++◌, length, refl, ap, ◌∙◌, arith, Option, Some, None, slice_get}
+use Rattle.std.proofs.Common.{◌≡◌, ℕ, zero, suc, ◌+◌, List, [], ◌∷◌, ◌++◌, length, refl, arith, Option, Some, None, slice_get}
 use Rattle.label_arena.specs.Counting.{times as times_of_seat, total}
 use Rattle.duty_plan.specs.Duties.{times}
 use Rattle.duty_plan.specs.Sums.{total_below}

@@ -1,7 +1,7 @@
 -- Facts on each element of a list, by its place.
-use Rattle.std.proofs.Common.{◌≡◌, All, ℕ, zero, suc, ◌+◌, ◌<◌, List, [], ◌∷◌, ◌++◌, length, ap, ◌∙◌, subst, arith, length-append, refl, get_or, Option, Some, None, slice_get}
-use Rattle.std.proofs.Math.ListN.{get_or-append}
-use Rattle.std.proofs.Math.Seq.{get_or-append_seam}
+use Rattle.std.proofs.Common.{◌≡◌, All, ℕ, zero, suc, ◌<◌, List, [], ◌∷◌, ◌++◌, length, ap, sym, ◌∙◌, subst, arith, length-append, refl, get_or, Some, slice_get}
+use Rattle.std.proofs.Math.ListN.{get_or-append, take}
+use Rattle.std.proofs.Math.Seq.{get_or-append_seam, take-append_seam}
 use Rattle.duty_plan.specs.Duties.{EachOf}
 
 pub some-same : {X : Type 0} (a b : X) → Some a ≡ Some b → a ≡ b
@@ -42,3 +42,7 @@ pub get-at : {X : Type 0} (xs : List X) (n : ℕ) (d : X) → n < length xs → 
 get-at [] n d l = absurd (omega arith)
 get-at (y ∷ ys) zero d l = refl
 get-at (y ∷ ys) (suc n) d l = get-at ys n d (omega arith)
+
+-- a list is what is taken of it and more
+pub taken : {X : Type 0} (xs zs : List X) (n : ℕ) → n ≡ length xs → take n (xs ++ zs) ≡ xs
+taken xs zs n is = subst (λ k. take k (xs ++ zs) ≡ xs) (sym is) (take-append_seam xs zs)

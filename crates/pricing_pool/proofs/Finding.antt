@@ -1,5 +1,5 @@
 -- What price_driver found is what the answer says.
-use Rattle.std.proofs.Common.{◌≡◌, ℕ, List, length, sym, subst, ◌∙◌}
+use Rattle.std.proofs.Common.{ℕ, List, sym, subst, ◌∙◌}
 use Rattle.duty_plan.specs.declared.duties.Step.{Step}
 use Rattle.duty_plan.specs.declared.plans.Case.{Case}
 use Rattle.duty_plan.specs.declared.deciding.Pairs.{Pairs}

@@ -2,6 +2,10 @@ pub mod Alike
 pub mod Classes
 pub mod Counting
 pub mod Elements
+pub mod Ending
 pub mod Finding
 pub mod Lone
+pub mod Releasing
+pub mod Sharing
+pub mod Staffing
 pub mod TwinAnswers

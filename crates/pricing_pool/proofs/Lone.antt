@@ -1,5 +1,5 @@
 -- A round of one seat.
-use Rattle.std.proofs.Common.{◌≡◌, ◌⊎◌, inl, inr, ℕ, ◌+◌, ◌<◌, List, [], ◌∷◌, length, refl, sym, ap, subst, ◌∙◌, arith, Some, slice_get}
+use Rattle.std.proofs.Common.{◌≡◌, ◌⊎◌, inl, inr, ℕ, ◌<◌, List, [], ◌∷◌, length, refl, sym, ap, subst, ◌∙◌, arith}
 use Rattle.label_arena.specs.Counting.{times as times_of_seat, once_below, total}
 use Rattle.label_arena.specs.Views.{SeatView}
 use Rattle.duty_plan.specs.declared.plans.Case.{Case}
@@ -9,7 +9,7 @@ use Rattle.duty_plan.specs.declared.pricing.Priced.{Priced}
 use Rattle.duty_plan.specs.declared.pricing.Priced.TheVariants.{Least, NoDuty, Spent}
 use Rattle.duty_plan.specs.LabelLists.{Entry, IsLabelList, MayStore}
 use Rattle.duty_plan.specs.Rounds.{IsAnswer}
-use Rattle.duty_plan.specs.SharedRounds.{AreJoined, IsFound, IsSeatOf, Worker}
+use Rattle.duty_plan.specs.SharedRounds.{AreJoined, IsSeatOf, Worker}
 use Rattle.duty_plan.proofs.LabelLists.{only-first}
 use Rattle.duty_plan.proofs.JoinedRounds.{joined_licence}
 use Rattle.pricing_pool.specs.Pricing.{IsPricedFrom}

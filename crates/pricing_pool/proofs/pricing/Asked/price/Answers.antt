@@ -1,6 +1,5 @@
 use Rattle.std.proofs.Common.{◌≡◌, ℕ, List, sym, subst}
 use Rattle.std.proofs.lemmas.Result.{IfOk-weaker}
-use Rattle.duty_plan.specs.declared.pricing.Priced.{Priced}
 use Rattle.pricing_pool.specs.Pricing.{IsPriced, answer_for}
 use Rattle.pricing_pool.proofs.Finding.{priced-from}
 use Rattle.pricing_pool.proofs.pricing.Asked.price.Goals as goal

@@ -1,7 +1,7 @@
 -- The one seat drew all that was drawn.
 use Rattle.std.proofs.Common.{◌≡◌, ℕ, IfOk, ap, sym, subst, ◌∙◌}
 use Rattle.std.proofs.lemmas.Result.{IfOk-weaker}
-use Rattle.label_arena.specs.Counting.{once_below, times, total}
+use Rattle.label_arena.specs.Counting.{times, total}
 use Rattle.label_arena.specs.Views.{IsNew}
 use Rattle.duty_plan.specs.Rounds.{IsAnswer}
 use Rattle.pricing_pool.specs.Pricing.{IsPricedFrom}
