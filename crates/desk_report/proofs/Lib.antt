@@ -12,3 +12,9 @@ pub mod TellingDuties
 pub mod TellingNodes
 pub mod KnownPairs
 pub mod OneExport
+pub mod TextLines
+pub mod SpelledPasts
+pub mod TellingLines
+pub mod GaplessWords
+pub mod TellingDrivers
+pub mod WholeReport

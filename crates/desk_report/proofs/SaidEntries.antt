@@ -1,4 +1,4 @@
--- What the lines of a duty say: each line's word, name and minutes tell its entry, and no other.
+-- A name tells its place, order or driver, and the acts of a lawful duty name places and orders of the week.
 use Rattle.std.proofs.Common.{◌≡◌, ℕ, ◌<◌, ◌^◌, ◌==◌, ◌&&◌, Bool, true, false, List, [], ◌∷◌, length, zero, suc, get_or, slice_get, map, Option, Some, None, unwrap_or, is_some, find, refl, ap, sym, ◌∙◌, arith}
 use Rattle.std.specs.List.{IsDistinct, AllByRecursion}
 use Rattle.std.specs.Str.{bytes_eq}
@@ -34,17 +34,17 @@ one-place (name ∷ names) zero (suc j) d p q e = absurd (apart names j name d.0
 one-place (name ∷ names) (suc i) zero d p q e = absurd (apart names i name d.0 (omega (arith, p)) (sym e))
 one-place (name ∷ names) (suc i) (suc j) d p q e = ap suc (one-place names i j d.1 (omega (arith, p)) (omega (arith, q)) e)
 
-place-at : (names : List (List ℕ)) (i : ℕ) → unwrap_or (slice_get names i) [] ≡ get_or names i []
+pub place-at : (names : List (List ℕ)) (i : ℕ) → unwrap_or (slice_get names i) [] ≡ get_or names i []
 place-at [] i = refl
 place-at (name ∷ names) zero = refl
 place-at (name ∷ names) (suc i) = place-at names i
 
-order-at : (orders : List Order) (i : ℕ) → order_or_none (slice_get orders i) ≡ get_or (map (λ order. order.name) orders) i []
+pub order-at : (orders : List Order) (i : ℕ) → order_or_none (slice_get orders i) ≡ get_or (map (λ order. order.name) orders) i []
 order-at [] i = refl
 order-at (order ∷ orders) zero = refl
 order-at (order ∷ orders) (suc i) = order-at orders i
 
-driver-at : (drivers : List Driver) (i : ℕ) → driver_or_none (slice_get drivers i) ≡ get_or (map (λ driver. driver.name) drivers) i []
+pub driver-at : (drivers : List Driver) (i : ℕ) → driver_or_none (slice_get drivers i) ≡ get_or (map (λ driver. driver.name) drivers) i []
 driver-at [] i = refl
 driver-at (driver ∷ drivers) zero = refl
 driver-at (driver ∷ drivers) (suc i) = driver-at drivers i

@@ -14,5 +14,5 @@ mod services;
 mod steps;
 
 pub use exports::export;
-pub use laws::{exports_tell_all, reports_tell_findings};
+pub use laws::{exports_tell_all, reports_tell_all, reports_tell_findings};
 pub use reports::{body, report};
