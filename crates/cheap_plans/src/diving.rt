@@ -1,5 +1,5 @@
 // Drivers fixed one after another, each at the duty of the best of some rounds of prices.
-ghost use Rattle.std.specs.Prelude.{◌≡◌, ◌<◌, ◌≤◌, length, IfOk, OnOk};
+ghost use Rattle.std.specs.Prelude.{◌≡◌, ◌<◌, ◌≤◌, length, IfOk, IfSome, OnOk};
 ghost use Rattle.duty_plan.specs.Duties.{IsCase};
 ghost use Rattle.duty_plan.specs.Values.{IsPairs, IsPrices};
 ghost use Rattle.price_master.specs.Pools.{IsPool};
@@ -19,9 +19,6 @@ pub(crate) struct Rounds {
     pub count: u32,
     pub from: u32,
 }
-
-/// The rounds of a driver after the first one.
-const LATER: Rounds = Rounds { count: 8, from: 4 };
 
 /// What the best of some rounds gave: its value and its prices, and the driver's duty. No value stands for no round.
 #[derive(Drop)]
@@ -132,41 +129,78 @@ fn best_round<P: Pricer>(
     Ok(best)
 }
 
-/// Fixes the freed drivers, the first one first, each at the duty of the best of some rounds, from whose prices the others go
-/// on. It ends where no guess is left, or where rounds find no duty for anyone.
+/// Fixes the first freed driver at the duty of the best of some rounds, and gives that round's prices; nothing where no driver
+/// is freed, or where the rounds find no duty for anyone.
+pub(crate) fn fix_first<P: Pricer>(
+    alloc: Global,
+    case: &Case,
+    pricer: &mut P,
+    tries: &mut Tries,
+    draft: &mut Draft,
+    prices: &Prices,
+    rounds: Rounds,
+) -> Result<Option<Prices>, Memory>
+    requires case { IsCase case.now }
+    requires pool { IsPool case.now tries.old.pool }
+    requires left { 0 < tries.old.left }
+    requires draft { IsDraft case.now draft.old }
+    requires prices { IsPrices case.now.week prices.now }
+    requires some { 1 ≤ rounds.count }
+    requires few { (rounds.count ≤ 1000) × (rounds.from ≤ 1000) }
+    ensures prices { IfOk result (λ next. IfSome next (IsPrices case.now.week)) }
+    ensures draft { IsDraft case.now draft.new }
+    ensures pool { IsPool case.now tries.new.pool }
+    ensures falls { IfOk result (λ next. IfSome next (λ _. tries.new.left < tries.old.left)) }
+    ensures chunks { P.chunks pricer.new ≡ P.chunks pricer.old }
+{
+    let Some(driver) = first_freed(draft.freed.as_slice()) else {
+        return Ok(None);
+    };
+    let best = best_round(
+        alloc,
+        case,
+        pricer,
+        tries,
+        draft,
+        driver,
+        copied(alloc, prices)?,
+        rounds,
+    )?;
+    if best.is_idle {
+        return Ok(None);
+    }
+    draft.duties.set(driver as usize, best.duty);
+    draft.freed.set(driver as usize, false);
+    Ok(Some(best.prices))
+}
+
+/// Fixes the freed drivers, one after another, each from the prices of the one before. It ends where no guess is left, or where
+/// rounds find no duty for anyone.
 pub(crate) fn dive<P: Pricer>(
     alloc: Global,
     case: &Case,
     pricer: &mut P,
     tries: &mut Tries,
     draft: &mut Draft,
-    prices: Prices,
-    first: Rounds,
+    prices: &Prices,
+    rounds: Rounds,
 ) -> Result<(), Memory>
     requires case { IsCase case.now }
     requires pool { IsPool case.now tries.old.pool }
     requires draft { IsDraft case.now draft.old }
-    requires prices { IsPrices case.now.week prices }
-    requires some { 1 ≤ first.count }
-    requires few { (first.count ≤ 1000) × (first.from ≤ 1000) }
+    requires prices { IsPrices case.now.week prices.now }
+    requires some { 1 ≤ rounds.count }
+    requires few { (rounds.count ≤ 1000) × (rounds.from ≤ 1000) }
     ensures draft { IsDraft case.now draft.new }
     ensures pool { IsPool case.now tries.new.pool }
     ensures chunks { P.chunks pricer.new ≡ P.chunks pricer.old }
 {
-    let mut now = prices;
-    let mut rounds = first;
+    let mut now = copied(alloc, prices)?;
     while tries.left > 0 {
-        let Some(driver) = first_freed(draft.freed.as_slice()) else {
-            return Ok(());
-        };
-        let best = best_round(alloc, case, pricer, tries, draft, driver, now, rounds)?;
-        if best.is_idle {
-            return Ok(());
+        match fix_first(alloc, case, pricer, tries, draft, &now, rounds)? {
+            Some(next) => now = next,
+            None => return Ok(()),
         }
-        draft.duties.set(driver as usize, best.duty);
-        draft.freed.set(driver as usize, false);
-        now = best.prices;
-        rounds = LATER;
     }
     Ok(())
 }

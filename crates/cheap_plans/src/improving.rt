@@ -1,25 +1,40 @@
 // The step that makes a plan cheaper.
 ghost use Rattle.std.specs.Prelude.{◌≡◌, ◌<◌, ◌≤◌, length, replicate, IfOk};
 ghost use Rattle.duty_plan.specs.Duties.{IsCase};
+ghost use Rattle.duty_plan.specs.Values.{IsPrices};
 ghost use Rattle.duty_plan.specs.Trees.{IsPlanAtCost};
 ghost use Rattle.price_master.specs.Pools.{IsPool};
 ghost use Rattle.cheap_plans.specs.Drafts.{IsDraft};
 
-use crate::diving::{Rounds, dive};
+use crate::diving::{Rounds, dive, fix_first};
 use crate::drafts::{Draft, copied_duties, no_duties};
+use crate::draws::{Draws, some_freed};
 use crate::guessing::Tries;
 use crate::incumbents::{Incumbent, offer_duties, offer_picked};
 use crate::turning::again;
-use duty_plan::{Case, Pricer};
+use duty_plan::{Case, Pricer, Prices};
 use minute_line::Memory;
 use price_master::{empty_pool, start_prices};
 use std::alloc::Global;
 
-/// How many drivers may be priced in all, where those who are alike count as one: some ten seconds on one processor.
+/// How many drivers may be priced before the passes, and again in them, where drivers who are alike count as one: some ten
+/// seconds each on one processor.
 const MOST_PRICINGS: u32 = 256;
+
+/// More passes than their pricings suffice for, unless nothing is guessed.
+const MOST_PASSES: u32 = 64;
+
+/// The first state of the draws of passes.
+const SEED: u64 = 1;
 
 /// The rounds before the first driver is fixed. With fewer the prices are still far from where they settle.
 const FIRST: Rounds = Rounds { count: 40, from: 0 };
+
+/// The rounds before each later driver is fixed: prices move less than in a first round.
+const LATER: Rounds = Rounds { count: 8, from: 4 };
+
+/// The rounds before each driver of a pass is fixed.
+const PASS: Rounds = Rounds { count: 4, from: 4 };
 
 /// Prices the drivers in turn from these duties, and offers the plan that they come to.
 fn offer_again<P: Pricer>(
@@ -43,9 +58,42 @@ fn offer_again<P: Pricer>(
     offer_duties(alloc, case, incumbent, draft.duties.as_slice())
 }
 
-/// Dives with all drivers from what subcontractors take, and offers the plan that this comes to, the same with the drivers
-/// priced again in turn, and what is picked from all duties that were guessed.
+/// Fixes a first driver and dives with the others, and offers the plan that this comes to, the same with the drivers priced
+/// again in turn, and what is picked from all duties that were guessed. It gives the prices at which the first driver was
+/// fixed, or the first prices.
 fn offer_dive<P: Pricer>(
+    alloc: Global,
+    case: &Case,
+    pricer: &mut P,
+    tries: &mut Tries,
+    incumbent: &mut Incumbent,
+) -> Result<Prices, Memory>
+    requires case { IsCase case.now }
+    requires pool { IsPool case.now tries.old.pool }
+    requires lawful { IsPlanAtCost case.now incumbent.old.plan incumbent.old.cost }
+    ensures prices { IfOk result (IsPrices case.now.week) }
+    ensures pool { IsPool case.now tries.new.pool }
+    ensures lawful { IsPlanAtCost case.now incumbent.new.plan incumbent.new.cost }
+    ensures falls { incumbent.new.cost ≤ incumbent.old.cost }
+    ensures chunks { P.chunks pricer.new ≡ P.chunks pricer.old }
+{
+    let start = start_prices(alloc, &case.week)?;
+    if tries.left == 0 {
+        return Ok(start);
+    }
+    let mut draft = no_duties(alloc, case)?;
+    let Some(prices) = fix_first(alloc, case, pricer, tries, &mut draft, &start, FIRST)? else {
+        return Ok(start);
+    };
+    dive(alloc, case, pricer, tries, &mut draft, &prices, LATER)?;
+    offer_duties(alloc, case, incumbent, draft.duties.as_slice())?;
+    offer_again(alloc, case, pricer, tries, incumbent, &mut draft)?;
+    offer_picked(alloc, case, incumbent, &tries.pool)?;
+    Ok(prices)
+}
+
+/// Prices the drivers of the plan in turn, and offers what this comes to.
+fn offer_kept<P: Pricer>(
     alloc: Global,
     case: &Case,
     pricer: &mut P,
@@ -61,11 +109,60 @@ fn offer_dive<P: Pricer>(
     ensures chunks { P.chunks pricer.new ≡ P.chunks pricer.old }
 {
     let mut draft = no_duties(alloc, case)?;
-    let start = start_prices(alloc, &case.week)?;
-    dive(alloc, case, pricer, tries, &mut draft, start, FIRST)?;
-    offer_duties(alloc, case, incumbent, draft.duties.as_slice())?;
+    draft.duties = copied_duties(alloc, incumbent.plan.duties.as_slice())?;
+    offer_again(alloc, case, pricer, tries, incumbent, &mut draft)
+}
+
+/// Frees drivers of the plan whom the draws name and dives with them alone, then prices all drivers in turn, and offers what
+/// this comes to and what is picked from all duties that were guessed.
+fn offer_pass<P: Pricer>(
+    alloc: Global,
+    case: &Case,
+    pricer: &mut P,
+    tries: &mut Tries,
+    incumbent: &mut Incumbent,
+    prices: &Prices,
+    draws: &mut Draws,
+) -> Result<(), Memory>
+    requires case { IsCase case.now }
+    requires pool { IsPool case.now tries.old.pool }
+    requires lawful { IsPlanAtCost case.now incumbent.old.plan incumbent.old.cost }
+    requires prices { IsPrices case.now.week prices.now }
+    ensures pool { IsPool case.now tries.new.pool }
+    ensures lawful { IsPlanAtCost case.now incumbent.new.plan incumbent.new.cost }
+    ensures falls { incumbent.new.cost ≤ incumbent.old.cost }
+    ensures chunks { P.chunks pricer.new ≡ P.chunks pricer.old }
+{
+    let mut draft = some_freed(alloc, case, incumbent.plan.duties.as_slice(), draws)?;
+    dive(alloc, case, pricer, tries, &mut draft, prices, PASS)?;
     offer_again(alloc, case, pricer, tries, incumbent, &mut draft)?;
     offer_picked(alloc, case, incumbent, &tries.pool)
+}
+
+/// Offers the plans of passes, as long as a guess is left.
+fn offer_passes<P: Pricer>(
+    alloc: Global,
+    case: &Case,
+    pricer: &mut P,
+    tries: &mut Tries,
+    incumbent: &mut Incumbent,
+    prices: &Prices,
+) -> Result<(), Memory>
+    requires case { IsCase case.now }
+    requires pool { IsPool case.now tries.old.pool }
+    requires lawful { IsPlanAtCost case.now incumbent.old.plan incumbent.old.cost }
+    requires prices { IsPrices case.now.week prices.now }
+    ensures lawful { IsPlanAtCost case.now incumbent.new.plan incumbent.new.cost }
+    ensures falls { incumbent.new.cost ≤ incumbent.old.cost }
+    ensures chunks { P.chunks pricer.new ≡ P.chunks pricer.old }
+{
+    let mut draws = Draws { state: SEED };
+    let mut passes = 0;
+    while passes < MOST_PASSES && tries.left > 0 {
+        offer_pass(alloc, case, pricer, tries, incumbent, prices, &mut draws)?;
+        passes += 1;
+    }
+    Ok(())
 }
 
 /// The plan, or a cheaper one that the pricer's guesses gave. A guess is trusted only where the plan that it makes is checked.
@@ -88,9 +185,9 @@ pub fn improve<P: Pricer>(
     };
     let mut none = no_duties(alloc, case)?;
     offer_again(alloc, case, pricer, &mut tries, &mut better, &mut none)?;
-    offer_dive(alloc, case, pricer, &mut tries, &mut better)?;
-    let mut kept = no_duties(alloc, case)?;
-    kept.duties = copied_duties(alloc, better.plan.duties.as_slice())?;
-    offer_again(alloc, case, pricer, &mut tries, &mut better, &mut kept)?;
+    let prices = offer_dive(alloc, case, pricer, &mut tries, &mut better)?;
+    offer_kept(alloc, case, pricer, &mut tries, &mut better)?;
+    tries.left = MOST_PRICINGS;
+    offer_passes(alloc, case, pricer, &mut tries, &mut better, &prices)?;
     Ok(better)
 }

@@ -4,6 +4,7 @@
 mod alike;
 mod diving;
 mod drafts;
+mod draws;
 mod guessing;
 mod improving;
 mod incumbents;

@@ -9,8 +9,6 @@ invariant-loop-tries g l = record {
   draft : IsDraft l.case l.draft;
   pool : IsPool l.case l.tries.pool;
   now : IsPrices l.case.week l.now;
-  some : 1 ≤ l.rounds.count;
-  few : (l.rounds.count ≤ 1000) × (l.rounds.from ≤ 1000);
   chunks : g.P.Pricer.chunks l.pricer ≡ g.P.Pricer.chunks l.fn.pricer;
 }
 
