@@ -1,4 +1,4 @@
-use Rattle.std.proofs.Common.{◌≡◌, ◌≤◌}
+use Rattle.std.proofs.Common.{◌≡◌}
 use Rattle.duty_plan.specs.Values.{IsPrices}
 use Rattle.price_master.specs.Pools.{IsPool}
 use Rattle.cheap_plans.specs.Drafts.{IsDraft}
