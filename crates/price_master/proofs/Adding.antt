@@ -1,5 +1,5 @@
 -- A pool with one duty more.
-use Rattle.std.proofs.Common.{◌≡◌, ◌≢◌, ◌⊎◌, inl, inr, ℕ, zero, suc, ◌+◌, ◌-◌, ◌<◌, ◌≤◌, List, [], ◌∷◌, ◌++◌, length, map, set, replicate, drop, get_or, refl, ap, sym, ◌∙◌, subst, arith, Some, slice_get, length-drop, length-append}
+use Rattle.std.proofs.Common.{◌≡◌, ◌≢◌, ◌⊎◌, inl, inr, ℕ, zero, suc, ◌+◌, ◌-◌, ◌<◌, ◌≤◌, List, [], ◌∷◌, ◌++◌, length, map, set, replicate, drop, get_or, refl, ap, sym, ◌∙◌, subst, arith, Some, slice_get, length-drop}
 use Rattle.std.specs.Prelude.{Result, Ok, Err, OnOk, OnErr}
 use Rattle.duty_plan.specs.declared.duties.Duty.{Duty}
 use Rattle.duty_plan.specs.declared.plans.Case.{Case}
@@ -7,10 +7,8 @@ use Rattle.duty_plan.specs.Duties.{EachOf}
 use Rattle.duty_plan.proofs.Home.{length_replicated, replicate_at}
 use Rattle.price_master.specs.declared.pooling.Pooled.{Pooled}
 use Rattle.price_master.specs.Pools.{AddsDuty, AddsTo, IsAmong, IsEntry, IsPool, IsPooled, newest}
-use Rattle.price_master.proofs.Lookups.{EarlierOrLast, get-map, get-set_other, get-set_same, last-there, length-map_lem, length-set_lem, one-more, same-or-not, split}
+use Rattle.price_master.proofs.Lookups.{EarlierOrLast, element-at, get-map, get-set_other, get-set_same, last-there, length-map_lem, length-set_lem, one-more, same-or-not, split}
 use Rattle.price_master.proofs.Carried.{get-below}
-use Rattle.price_master.proofs.Trying.{element-at}
-use Rattle.std.proofs.lemmas.Option.{slice_get_within}
 
 map-set_lem : {X Y : Type 0} (f : X → Y) (xs : List X) (i : ℕ) (x : X) → map f (set xs i x) ≡ set (map f xs) i (f x)
 map-set_lem f [] i x = refl

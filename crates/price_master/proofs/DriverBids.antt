@@ -1,14 +1,14 @@
 -- The bids of a driver, one duty after another.
-use Rattle.std.proofs.Common.{◌≡◌, ◌⊎◌, inl, inr, ℕ, zero, suc, ◌+◌, ◌-◌, ◌*◌, ◌^◌, ◌<◌, ◌≤◌, max, Bool, true, false, cond, List, [], ◌∷◌, ◌++◌, length, take, refl, ap, sym, ◌∙◌, subst, arith, Some, slice_get, bit_or}
+use Rattle.std.proofs.Common.{◌≡◌, ◌⊎◌, inl, inr, ℕ, zero, suc, ◌+◌, ◌-◌, ◌^◌, ◌<◌, ◌≤◌, Bool, true, false, cond, List, [], ◌∷◌, ◌++◌, length, take, refl, ap, sym, ◌∙◌, subst, arith, Some, slice_get}
 use Rattle.std.specs.Int.{bit_at}
-use Rattle.std.specs.List.{insert, sum_by}
-use Rattle.std.proofs.lemmas.List.Sums.{sum_by-insert, sum_by_push, sum_by_more, sum_by-take-le}
+use Rattle.std.specs.List.{sum_by}
+use Rattle.std.proofs.lemmas.List.Sums.{sum_by_push, sum_by_more, sum_by-take-le}
 use Rattle.std.proofs.lemmas.Nat.Bits.{bit_at_or, bit_at-zero, bit_at-pow_other, same_from_bits}
 use Rattle.std.proofs.lemmas.Option.{slice_get_within, get_or_from_slice_get}
 use Rattle.week_book.specs.declared.weeks.Week.{Week}
 use Rattle.duty_plan.specs.declared.plans.Case.{Case}
 use Rattle.duty_plan.specs.declared.duties.Duty.{Duty}
-use Rattle.duty_plan.specs.PartialDuties.{PartialDuty, serves}
+use Rattle.duty_plan.specs.PartialDuties.{serves}
 use Rattle.duty_plan.specs.Duties.{IsLawful, orders_of, partial_of, price_of, times, worth}
 use Rattle.duty_plan.specs.Labels.{bits_below, served_after}
 use Rattle.duty_plan.specs.Sums.{total_below}
@@ -19,7 +19,6 @@ use Rattle.price_master.specs.declared.bidding.Bid.{Bid}
 use Rattle.price_master.specs.declared.pooling.Pooled.{Pooled}
 use Rattle.price_master.specs.Pools.{orders_in}
 use Rattle.price_master.specs.Bids.{AreBids, IsBid, IsIn, bid_by, home}
-use Rattle.price_master.proofs.Inserting.{inserted-at, inserted-back, inserted-old}
 use Rattle.price_master.proofs.Lookups.{EarlierOrLast, get-before, last-there, same-or-not, split}
 
 -- ---- what a duty bids
@@ -133,37 +132,39 @@ bids-skipped week pooled n bids entry bid a there e none = record {
         absurd (omega arith)
 
 -- a duty that saves
-pub bids-more : (week : Week) (pooled : List Pooled) (n i : ℕ) (bids more : List Bid) (entry : Pooled) (bid : Bid) → AreBidsSoFar week pooled n bids →
-    slice_get pooled n ≡ Some entry → bid ≡ bid_by week n entry → 0 < bid.saving → bid.saving ≤ 1099511627776 → i ≤ length bids →
-    more ≡ insert bids i bid → AreBidsSoFar week pooled (n + 1) more
-bids-more week pooled n i bids more entry bid a there e saves low l is = subst (λ (x : List Bid). AreBidsSoFar week pooled (n + 1) x) (sym is) (record {
-  each = λ k other h. each other (inserted-back bids i bid k other l h);
+pub bids-more : (week : Week) (pooled : List Pooled) (n : ℕ) (bids more : List Bid) (entry : Pooled) (bid : Bid) → AreBidsSoFar week pooled n bids →
+    slice_get pooled n ≡ Some entry → bid ≡ bid_by week n entry → 0 < bid.saving → bid.saving ≤ 1099511627776 →
+    more ≡ bids ++ bid ∷ [] → AreBidsSoFar week pooled (n + 1) more
+bids-more week pooled n bids more entry bid a there e saves low is = subst (λ (x : List Bid). AreBidsSoFar week pooled (n + 1) x) (sym is) (record {
+  each = λ k other h. each k other (split bids bid other k h);
   all = λ m other below at some. by_place m other below at some (same-or-not m n);
   few = λ f. few f;
-  small = λ k other h. small other (inserted-back bids i bid k other l h);
+  small = λ k other h. small k other (split bids bid other k h);
 })
   where
-    each : (other : Bid) → (bid ≡ other) ⊎ IsIn bids other → IsBid week pooled other
-    each other (inr g) = a.each g.0 other g.1
-    each other (inl same) = subst (λ (b : Bid). IsBid week pooled b) same (n, entry, there, e, saves)
+    each : (k : ℕ) (other : Bid) → EarlierOrLast bids bid k other → IsBid week pooled other
+    each k other (inl g) = a.each k other g.1
+    each k other (inr g) = subst (λ (b : Bid). IsBid week pooled b) g.1 (n, entry, there, e, saves)
 
-    small : (other : Bid) → (bid ≡ other) ⊎ IsIn bids other → other.saving ≤ 1099511627776
-    small other (inr g) = a.small g.0 other g.1
-    small other (inl same) = subst (λ (b : Bid). b.saving ≤ 1099511627776) same low
+    small : (k : ℕ) (other : Bid) → EarlierOrLast bids bid k other → other.saving ≤ 1099511627776
+    small k other (inl g) = a.small k other g.1
+    small k other (inr g) = subst (λ (b : Bid). b.saving ≤ 1099511627776) g.1 low
 
-    few : (f : ℕ → ℕ) → sum_by (λ b. f b.served) (insert bids i bid) ≤ sum_by (λ x. f (orders_in x.duty)) (take (n + 1) pooled)
+    few : (f : ℕ → ℕ) → sum_by (λ b. f b.served) (bids ++ bid ∷ []) ≤ sum_by (λ x. f (orders_in x.duty)) (take (n + 1) pooled)
     few f =
         let its : f bid.served ≡ f (orders_in entry.duty) = ap (λ (b : Bid). f b.served) e in
-        omega (arith, a.few f, entry-more (λ x. f (orders_in x.duty)) pooled n entry there, sum_by-insert (λ b. f b.served) bids i bid)
+        omega (arith, a.few f, its, entry-more (λ x. f (orders_in x.duty)) pooled n entry there, sum_by_push (λ b. f b.served) bids bid)
 
     by_place : (m : ℕ) (other : Pooled) → m < n + 1 → slice_get pooled m ≡ Some other → 0 < (bid_by week m other).saving →
-        (m ≡ n) ⊎ (m ≡ n → ⊥) → IsIn (insert bids i bid) (bid_by week m other)
-    by_place m other below at some (inr d) = let old = a.all m other (omega arith) at some in inserted-old bids i bid old.0 (bid_by week m other) l old.1
+        (m ≡ n) ⊎ (m ≡ n → ⊥) → IsIn (bids ++ bid ∷ []) (bid_by week m other)
+    by_place m other below at some (inr d) =
+        let old = a.all m other (omega arith) at some in
+        (old.0, get-before bids (bid ∷ []) old.0 (slice_get_within bids old.0 (bid_by week m other) old.1) ∙ old.1)
     by_place m other below at some (inl same) =
         let now : slice_get pooled n ≡ Some other = ap (slice_get pooled) (sym same) ∙ at in
         let is : entry ≡ other = cc in
         let its : bid ≡ bid_by week m other = e ∙ (ap (λ (x : Pooled). bid_by week n x) is ∙ ap (λ (x : ℕ). bid_by week x other) (sym same)) in
-        (i, inserted-at bids i bid l ∙ ap (λ (b : Bid). Some b) its)
+        (length bids, last-there bids bid ∙ ap (λ (b : Bid). Some b) its)
 
 -- all duties, and the empty one
 pub bids-done : (week : Week) (pooled : List Pooled) (n : ℕ) (bids more : List Bid) → AreBidsSoFar week pooled n bids → length pooled ≤ n →

@@ -1,5 +1,5 @@
 -- Bids that are fixed one driver after another.
-use Rattle.std.proofs.Common.{◌≡◌, ◌≢◌, ℕ, zero, suc, ◌+◌, ◌<◌, ◌≤◌, true, List, length, get_or, set, refl, ap, sym, ◌∙◌, subst, arith, add-one, Some, slice_get, bit_or, get_or-set_same, get_or-set_other}
+use Rattle.std.proofs.Common.{◌≡◌, ◌≢◌, ℕ, zero, suc, ◌+◌, ◌<◌, ◌≤◌, true, List, length, get_or, set, refl, sym, subst, arith, add-one, Some, slice_get, bit_or, get_or-set_same, get_or-set_other}
 use Rattle.price_master.specs.declared.bidding.Bid.{Bid}
 use Rattle.price_master.specs.Pools.{are_apart}
 use Rattle.price_master.specs.Bids.{AreFixed, IsFixedNext, AreChosen}

@@ -1,11 +1,9 @@
 -- The drivers that have no duty, and how many of a class there are.
-use Rattle.std.proofs.Common.{◌≡◌, ◌≢◌, ◌⊎◌, inl, inr, ℕ, zero, suc, ◌+◌, ◌-◌, ◌*◌, ◌<◌, ◌≤◌, Bool, true, false, cond, eqb, List, [], ◌∷◌, length, get_or, set, refl, ap, sym, ◌∙◌, subst, arith, get_or-set_same, get_or-set_other}
+use Rattle.std.proofs.Common.{◌≡◌, ◌≢◌, ◌⊎◌, inl, inr, ℕ, zero, suc, ◌+◌, ◌-◌, ◌*◌, ◌<◌, ◌≤◌, Bool, true, false, cond, eqb, List, length, get_or, set, refl, ap, sym, ◌∙◌, arith, get_or-set_same, get_or-set_other}
 use Rattle.std.proofs.lemmas.Bool.Decides.{nat_tests}
-use Rattle.duty_plan.specs.Sums.{total_below}
-use Rattle.duty_plan.proofs.Sums.{total-mono, total-same}
+use Rattle.duty_plan.proofs.Sums.{total-same}
 use Rattle.price_master.specs.Classes.{free_of, is_home, sum_free, taken}
 use Rattle.price_master.proofs.Lookups.{same-or-not}
-use Rattle.price_master.proofs.Turns.{cond-le}
 
 -- a test of two numbers
 pub same-tests : (a b : ℕ) → ((eqb a b ≡ true) × (a ≡ b)) ⊎ ((eqb a b ≡ false) × (a ≢ b))

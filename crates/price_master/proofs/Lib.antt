@@ -10,7 +10,6 @@ pub mod Tightening
 pub mod LoneAtStart
 pub mod Limits
 pub mod Fixing
-pub mod Trying
 pub mod Lookups
 pub mod Rests
 pub mod Inserting
@@ -22,9 +21,15 @@ pub mod Orders
 pub mod Turns
 pub mod Free
 pub mod Taking
+pub mod Ways
 pub mod Tries
+pub mod Classed
+pub mod Falling
 pub mod Listing
 pub mod Tried
+pub mod Bounded
+pub mod Placed
+pub mod Freed
 pub mod Adding
 pub mod Picks
 pub mod Serving

@@ -1,5 +1,6 @@
--- Looking up in a list with one element changed, and with more elements after it; and numbers, compared.
-use Rattle.std.proofs.Common.{◌≡◌, ◌≢◌, ◌⊎◌, inl, inr, ℕ, zero, suc, ◌+◌, ◌<◌, ◌≤◌, List, [], ◌∷◌, ◌++◌, length, set, map, refl, ap, arith, Some, slice_get, length-append}
+-- Looking up in a list with one element changed, with more elements after it, and from some element on; and numbers, compared.
+use Rattle.std.proofs.Common.{◌≡◌, ◌≢◌, ◌⊎◌, inl, inr, ℕ, zero, suc, ◌+◌, ◌<◌, ◌≤◌, List, [], ◌∷◌, ◌++◌, length, drop, get_or, set, map, refl, ap, sym, ◌∙◌, arith, Some, slice_get, length-append}
+use Rattle.std.proofs.lemmas.Option.{slice_get_read}
 
 pub get-set_same : {X : Type 0} (xs : List X) (i : ℕ) (x : X) → i < length xs → slice_get (set xs i x) i ≡ Some x
 get-set_same [] i x l = absurd (omega arith)
@@ -75,3 +76,26 @@ last-there xs x = get-after xs (x ∷ []) (length xs) 0 (omega arith)
 
 pub one-more : {X : Type 0} (xs : List X) (x : X) → length (xs ++ x ∷ []) ≡ suc (length xs)
 one-more xs x = let one : length (x ∷ []) ≡ 1 = omega arith in omega (arith, length-append xs (x ∷ []))
+
+-- where a list begins
+pub drop-at : {X : Type 0} (xs : List X) (n : ℕ) (x : X) → slice_get xs n ≡ Some x → drop n xs ≡ x ∷ drop (n + 1) xs
+drop-at [] n x e = cc
+drop-at {X = X} (y ∷ ys) zero x e = let same : y ≡ x = cc in ap (λ (z : X). z ∷ ys) same
+drop-at (y ∷ ys) (suc n) x e = let next : suc (n + 1) ≡ suc n + 1 = omega arith in drop-at ys n x e ∙ ap (λ (m : ℕ). x ∷ drop m (y ∷ ys)) next
+
+-- a list that begins where another is dropped
+pub begins : {X : Type 0} (xs : List X) (n : ℕ) (x : X) (ys : List X) → x ∷ ys ≡ drop n xs → (slice_get xs n ≡ Some x) × (ys ≡ drop (n + 1) xs)
+begins [] zero x ys e = cc
+begins [] (suc n) x ys e = cc
+begins {X = X} (z ∷ zs) zero x ys e =
+    let one : x ≡ z = cc in
+    let others : ys ≡ zs = cc in
+    (ap (λ (w : X). Some w) (sym one), others)
+begins (z ∷ zs) (suc n) x ys e =
+    let more = begins zs n x ys e in
+    let next : suc (n + 1) ≡ suc n + 1 = omega arith in
+    (more.0, more.1 ∙ ap (λ (m : ℕ). drop m (z ∷ zs)) next)
+
+-- the element that a loop reads
+pub element-at : {X : Type 0} (xs : List X) (n : ℕ) (x y : X) → n < length xs → x ≡ get_or xs n x → y ≡ x → slice_get xs n ≡ Some y
+element-at {X = X} xs n x y l e same = slice_get_read xs (length xs) n x refl l e ∙ ap (λ (z : X). Some z) (sym same)

@@ -1,5 +1,5 @@
 -- Orders put together.
-use Rattle.std.proofs.Common.{◌≡◌, ℕ, ◌+◌, max, min, true, eqb, ap, sym, ◌∙◌, arith, bit_and, bit_or}
+use Rattle.std.proofs.Common.{◌≡◌, ℕ, true, eqb, ap, ◌∙◌, arith, bit_and, bit_or}
 use Rattle.std.specs.Int.{bit_at}
 use Rattle.std.proofs.lemmas.Bool.Decides.{nat_tests}
 use Rattle.std.proofs.lemmas.Nat.{and_comm, or_comm}

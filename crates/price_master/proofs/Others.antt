@@ -1,23 +1,20 @@
 -- No pooled plan saves more than the best choice of bids.
-use Rattle.std.proofs.Common.{◌≡◌, ◌≢◌, ◌⊎◌, inl, inr, ℕ, zero, suc, ◌+◌, ◌-◌, ◌<◌, ◌≤◌, max, min, Bool, true, false, cond, eqb, List, [], ◌∷◌, ◌++◌, length, reverse, refl, ap, sym, ◌∙◌, subst, arith, Some, slice_get, bit_and, bit_or}
+use Rattle.std.proofs.Common.{◌≡◌, ◌≢◌, ◌⊎◌, inl, inr, ℕ, zero, suc, ◌+◌, ◌<◌, ◌≤◌, true, eqb, List, [], ◌∷◌, length, reverse, refl, ap, sym, ◌∙◌, subst, arith, Some, slice_get, bit_and, bit_or}
 use Rattle.std.specs.Int.{bit_at}
-use Rattle.std.specs.Int.Bits.{and_zero_r, or_zero_r}
-use Rattle.std.specs.List.{sum_by}
-use Rattle.std.proofs.lemmas.List.Sums.{sum_by-cons, sum_by-le-sum_by}
-use Rattle.std.proofs.lemmas.Nat.Bits.{bit_at_and, bit_at_or, bit_at-lt, bit_at-zero, same_from_bits}
+use Rattle.std.specs.Int.Bits.{or_zero_r}
+use Rattle.std.proofs.lemmas.Nat.Bits.{bit_at_and, bit_at_or, bit_at-zero, same_from_bits}
 use Rattle.duty_plan.specs.declared.duties.Duty.{Duty}
 use Rattle.duty_plan.specs.declared.duties.Step.{Step}
 use Rattle.duty_plan.specs.declared.plans.Case.{Case}
 use Rattle.duty_plan.specs.declared.plans.Plan.{Plan}
-use Rattle.duty_plan.specs.Duties.{EachOf, IsLawful, IsLawfulPlan, carried, cost_after, cost_of_duties, cost_of_plan, orders_of, partial_of, price_of, times, worth}
-use Rattle.duty_plan.specs.Sums.{total_below}
+use Rattle.duty_plan.specs.Duties.{EachOf, IsLawful, carried, cost_after, cost_of_duties, cost_of_plan, orders_of, partial_of, price_of, times, worth}
 use Rattle.duty_plan.specs.Values.{cost_of_all}
 use Rattle.duty_plan.proofs.Carrying.{served-known}
-use Rattle.duty_plan.proofs.Sums.{times-append, total-add, total-same, total-zero, worth-append}
+use Rattle.duty_plan.proofs.Sums.{times-append, worth-append}
 use Rattle.price_master.specs.declared.bidding.Bid.{Bid}
 use Rattle.price_master.specs.declared.pooling.Pooled.{Pooled}
-use Rattle.price_master.specs.Pools.{IsAmong, IsEntry, IsPool, IsPooledPlan, IsPooled, are_apart, orders_in, ways, ways_of_all}
-use Rattle.price_master.specs.Bids.{AreBids, AreBidsOfAll, CanSave, bid_by, home, turns_of}
+use Rattle.price_master.specs.Pools.{IsAmong, IsEntry, IsPool, IsPooledPlan, IsPooled, are_apart, orders_in}
+use Rattle.price_master.specs.Bids.{AreBids, AreBidsOfAll, CanSave, bid_by, home}
 use Rattle.price_master.proofs.Chosen.{bits-of, whole-worth}
 use Rattle.price_master.proofs.Singles.{zero-apart}
 use Rattle.price_master.proofs.Once.{carried-known}

@@ -1,5 +1,5 @@
 -- What is picked: a plan of least cost, or one that no plan of a single pooled duty beats.
-use Rattle.std.proofs.Common.{◌≡◌, ◌⊎◌, inl, inr, ℕ, zero, suc, ◌+◌, ◌-◌, ◌<◌, ◌≤◌, Bool, true, false, cond, List, length, refl, ap, sym, ◌∙◌, subst, arith, Some, slice_get}
+use Rattle.std.proofs.Common.{◌≡◌, ℕ, zero, suc, ◌+◌, ◌<◌, ◌≤◌, Bool, true, false, cond, List, length, refl, ap, sym, subst, arith, Some, slice_get}
 use Rattle.duty_plan.specs.declared.duties.Duty.{Duty}
 use Rattle.duty_plan.specs.declared.plans.Case.{Case}
 use Rattle.duty_plan.specs.declared.plans.Plan.{Plan}
@@ -11,7 +11,7 @@ use Rattle.duty_plan.specs.Values.{cost_of_all}
 use Rattle.duty_plan.proofs.Sums.{total-add, total-same}
 use Rattle.price_master.specs.declared.bidding.Bid.{Bid}
 use Rattle.price_master.specs.declared.pooling.Pooled.{Pooled}
-use Rattle.price_master.specs.Pools.{IsCutPlan, IsLeastPooled, IsPool, IsPooled, ways_of_all}
+use Rattle.price_master.specs.Pools.{IsCutPlan, IsLeastPooled, IsPool, IsPooled}
 use Rattle.price_master.specs.Bids.{AreBidsOfAll, AreChosen, CanSave, IsMostOf, bid_by, turns_of}
 use Rattle.price_master.specs.Placing.{AreDutiesAt}
 use Rattle.price_master.specs.Completing.{IsRest}

@@ -1,11 +1,10 @@
 -- Bids that the search takes: they save little enough, and what saves anything serves an order.
-use Rattle.std.proofs.Common.{◌≡◌, ◌≢◌, ◌⊎◌, inl, inr, ℕ, zero, suc, ◌+◌, ◌-◌, ◌<◌, ◌≤◌, Bool, true, false, cond, List, length, refl, ap, sym, ◌∙◌, arith, Some, slice_get}
+use Rattle.std.proofs.Common.{◌≡◌, ◌⊎◌, inl, inr, ℕ, ◌<◌, Bool, true, false, cond, List, length, refl, ap, sym, ◌∙◌, arith, Some, slice_get}
 use Rattle.std.specs.Int.{bit_at}
 use Rattle.duty_plan.specs.declared.duties.Duty.{Duty}
 use Rattle.duty_plan.specs.declared.plans.Case.{Case}
 use Rattle.duty_plan.specs.PartialDuties.{serves}
 use Rattle.duty_plan.specs.Duties.{IsLawful, orders_of, partial_of, price_of, worth}
-use Rattle.duty_plan.specs.Sums.{total_below}
 use Rattle.std.proofs.lemmas.Nat.Bits.{bit_at-zero}
 use Rattle.std.proofs.lemmas.Option.{slice_get_within}
 use Rattle.duty_plan.proofs.Bits.{served_bits}
@@ -16,7 +15,6 @@ use Rattle.price_master.specs.Pools.{IsPool, orders_in}
 use Rattle.price_master.specs.Bids.{AreBidsOfAll, IsBid, home}
 use Rattle.price_master.specs.Sensible.{AreAllSensible}
 use Rattle.price_master.proofs.DriverBids.{worth-right}
-use Rattle.price_master.proofs.Lookups.{same-or-not}
 use Rattle.price_master.proofs.Picks.{bids-below}
 
 flag : (b : Bool) → b ≡ true → (let z : ℕ = cond b 1 0 in z ≡ 1)

@@ -1,13 +1,13 @@
 -- The choice of one bid alone.
-use Rattle.std.proofs.Common.{◌≡◌, ◌≢◌, ◌⊎◌, inl, inr, ℕ, zero, suc, ◌+◌, ◌*◌, ◌<◌, ◌≤◌, Bool, true, List, length, get_or, set, refl, ap, sym, ◌∙◌, subst, arith, add-one, Some, slice_get, bit_and, bit_or, eqb, get_or-set_same, get_or-set_other}
+use Rattle.std.proofs.Common.{◌≡◌, ◌≢◌, ◌⊎◌, inl, inr, ℕ, zero, suc, ◌+◌, ◌<◌, ◌≤◌, true, List, length, get_or, set, refl, ap, sym, ◌∙◌, subst, arith, Some, slice_get, bit_or, eqb, get_or-set_other}
 use Rattle.std.specs.Int.Bits.{and_zero_l, and_zero_r, or_zero_r}
 use Rattle.std.proofs.lemmas.Option.{slice_get_within}
 use Rattle.price_master.specs.declared.bidding.Bid.{Bid}
 use Rattle.price_master.specs.Pools.{are_apart}
-use Rattle.price_master.specs.Bids.{AreChosen, AreFixed, HaveHomes, IsIn, IsMostOf, home}
+use Rattle.price_master.specs.Bids.{AreChosen, AreFixed, HaveHomes, home}
 use Rattle.price_master.proofs.Carried.{get-below}
-use Rattle.price_master.proofs.Fixing.{chosen-all, fixed-next}
-use Rattle.price_master.proofs.Lookups.{length-set_lem, same-or-not}
+use Rattle.price_master.proofs.Fixing.{fixed-next}
+use Rattle.price_master.proofs.Lookups.{same-or-not}
 
 pub zero-apart : (x : ℕ) → are_apart x 0 ≡ true
 zero-apart x = ap (λ (y : ℕ). eqb y 0) (and_zero_r x)

@@ -8,9 +8,8 @@ use Rattle.price_master.specs.Bids.{CanSave}
 use Rattle.price_master.specs.Classes.{AreClassBids, CanTake, can_take, free_of, is_home, sum_free, taken}
 use Rattle.price_master.specs.Sensible.{AreAllSensible}
 use Rattle.price_master.proofs.Free.{flag-off, flag-on, free-less, free-some, free-taken, same-tests, taken-more}
-use Rattle.price_master.proofs.Lookups.{length-set_lem}
-use Rattle.price_master.proofs.Orders.{apart-fewer, apart-second, apart-self, apart-swap, apart-turn, or-swap}
-use Rattle.price_master.proofs.Trying.{begins}
+use Rattle.price_master.proofs.Lookups.{begins, length-set_lem}
+use Rattle.price_master.proofs.Orders.{apart-fewer, apart-second, apart-self, apart-turn, or-swap}
 
 -- ---- one bid
 

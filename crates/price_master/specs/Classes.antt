@@ -54,7 +54,7 @@ pub record AreClassBids (bids : List (List Bid)) (classes : List ℕ) (list : Li
   pub few : (f : ℕ → ℕ) (driver : ℕ) (of_driver : List Bid) → slice_get bids driver ≡ Some of_driver →
       sum_class f (slice_index classes driver) list ≤ sum_saving f of_driver
 
--- the place of a driver without a duty
+-- the driver has no duty
 abbrev pub is_home : List ℕ → ℕ → Bool
 is_home places driver = slice_index places driver == 4294967295
 

@@ -69,19 +69,7 @@ fn bid_of(case: &Case, driver: u32, place: u32, entry: &Pooled) -> Bid
     }
 }
 
-/// The place of a bid among bids of falling savings.
-fn place_among(bids: &[Bid], saving: u64) -> usize
-    ensures { result ≤ length bids.now }
-{
-    for place in 0..bids.len() {
-        if bids[place].saving < saving {
-            return place;
-        }
-    }
-    bids.len()
-}
-
-/// The bids of a driver's duties that save anything, by falling savings, and last that of the empty duty.
+/// The bids of a driver's duties that save anything, and last that of the empty duty.
 fn bids_of_driver(
     alloc: Global,
     case: &Case,
@@ -97,7 +85,7 @@ fn bids_of_driver(
     for place in 0..pooled.len() as u32 {
         let bid = bid_of(case, driver, place, &pooled[place as usize]);
         if bid.saving > 0 {
-            bids.insert(place_among(bids.as_slice(), bid.saving), bid)?;
+            bids.push(bid)?;
         }
     }
     bids.push(NO_DUTY)?;

@@ -1,4 +1,4 @@
-use Rattle.std.proofs.Common.{◌≡◌, ℕ, ◌≤◌, List, length, subst, ap, sym, ◌∙◌, arith, Some, slice_get}
+use Rattle.std.proofs.Common.{◌≤◌, List, length, subst, ap, ◌∙◌, slice_get}
 use Rattle.std.proofs.lemmas.Option.{slice_get-get_or}
 use Rattle.price_master.specs.declared.bidding.Bid.{Bid}
 use Rattle.price_master.specs.declared.alike.ClassBid.{ClassBid}

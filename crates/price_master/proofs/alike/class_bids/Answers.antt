@@ -1,8 +1,8 @@
-use Rattle.std.proofs.Common.{◌≡◌, ℕ, ◌<◌, List, length, subst, ap, sym, ◌∙◌, arith, Some, slice_get}
+use Rattle.std.proofs.Common.{List, subst, sym}
+use Rattle.price_master.proofs.Lookups.{element-at}
 use Rattle.price_master.specs.declared.alike.ClassBid.{ClassBid}
-use Rattle.price_master.specs.Classes.{AddsBids, AreClassBids}
+use Rattle.price_master.specs.Classes.{AreClassBids}
 use Rattle.price_master.proofs.Listing.{listed-done, listed-more, listed-skip}
-use Rattle.price_master.proofs.Trying.{element-at}
 use Rattle.price_master.proofs.alike.class_bids.Goals as goal
 use Rattle.price_master.proofs.alike.class_bids.Goals.{then-classes-driver+in_ok-add_bids, else-classes-driver}
 

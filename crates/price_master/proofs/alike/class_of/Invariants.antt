@@ -1,4 +1,4 @@
-use Rattle.std.proofs.Common.{◌≡◌, ℕ, ◌<◌, Some, slice_get}
+use Rattle.std.proofs.Common.{◌≡◌, ℕ, ◌<◌, slice_get}
 use Rattle.price_master.proofs.alike.class_of.Given as goal
 
 abbrev pub invariant-loop-earlier : goal.invariant-loop-earlier

@@ -1,4 +1,4 @@
-use Rattle.price_master.proofs.Listing.{AreClassesTo}
+use Rattle.price_master.proofs.Classed.{AreClassesTo}
 use Rattle.price_master.proofs.alike.classes_of.Given as goal
 
 abbrev pub invariant-loop-driver : goal.invariant-loop-driver

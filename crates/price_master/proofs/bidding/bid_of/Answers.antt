@@ -1,4 +1,4 @@
-use Rattle.std.proofs.Common.{◌≡◌, ℕ, arith, length}
+use Rattle.std.proofs.Common.{◌≡◌, arith, length}
 use Rattle.price_master.proofs.DriverBids.{bid-right}
 use Rattle.price_master.proofs.bidding.bid_of.Goals as goal
 

@@ -1,4 +1,4 @@
-use Rattle.std.proofs.Common.{◌≡◌, ◌⊎◌, inl, inr, ℕ, ◌+◌, ◌<◌, ◌++◌, ◌∷◌, [], List, length, refl, ap, sym, ◌∙◌, subst, arith, Some, slice_get}
+use Rattle.std.proofs.Common.{◌≡◌, inl, inr, ℕ, ◌++◌, ◌∷◌, [], List, length, ap, sym, ◌∙◌, subst, arith, Some, slice_get}
 use Rattle.week_book.specs.declared.weeks.Week.{Week}
 use Rattle.price_master.specs.declared.bidding.Bid.{Bid}
 use Rattle.price_master.specs.declared.pooling.Pooled.{Pooled}

@@ -1,4 +1,4 @@
-use Rattle.std.proofs.Common.{◌≡◌, ◌+◌, ◌∙◌, sym, subst, List, ℕ}
+use Rattle.std.proofs.Common.{◌+◌, ◌∙◌, sym, subst, List, ℕ}
 use Rattle.price_master.proofs.Rests.{IsRestSoFar, rest-pushed, rest-skipped}
 use Rattle.price_master.proofs.completing.rest.Goals as goal
 use Rattle.price_master.proofs.completing.rest.Goals.{then-not-is_served+in_ok-push, else-not-is_served}

@@ -1,9 +1,12 @@
-use Rattle.std.proofs.Common.{◌≡◌, ◌≢◌, ◌⊎◌, inl, inr, ℕ, ◌+◌, ◌*◌, ◌<◌, ◌≤◌, true, false, List, length, drop, get_or, set, refl, sym, subst, ◌∙◌, arith, rules, Some, slice_get, bit_or}
+use Rattle.std.proofs.Common.{◌≡◌, ◌+◌, ◌≤◌, length, drop, get_or, refl, sym, ◌∙◌, arith, rules}
 use Rattle.std.proofs.lemmas.Option.{slice_get-get_or}
 use Rattle.price_master.specs.declared.alike.ClassBid.{ClassBid}
-use Rattle.price_master.specs.Classes.{CanTake, can_take, free_of, taken, tries_of}
+use Rattle.price_master.specs.Classes.{free_of}
 use Rattle.price_master.proofs.Taking.{can-parts}
-use Rattle.price_master.proofs.Tried.{IsFreeFor, fixed-small, fixed-taken, free-can, listed-away, listed-small, next-can, next-tries, top-holds, top-small, tried-all, tried-next, tries-here, tries-taken}
+use Rattle.price_master.proofs.Bounded.{top-holds}
+use Rattle.price_master.proofs.Freed.{IsFreeFor, fixed-taken, free-can, listed-away, listed-small, next-can, next-tries, top-small}
+use Rattle.price_master.proofs.Placed.{fixed-small}
+use Rattle.price_master.proofs.Tried.{tried-all, tried-next, tries-here, tries-taken}
 use Rattle.price_master.proofs.exploring.+explore.Goals as goal
 use Rattle.price_master.proofs.exploring.+explore.Goals.{then-driver-bids+then-are_apart+then-next-hope+else-found-eq-TURNS+else-found, then-driver-bids+then-are_apart+else-next-hope, else-driver-bids, else-driver-bids-via-then-driver-bids+else-are_apart, else-driver-bids-via-else-driver-bids}
 

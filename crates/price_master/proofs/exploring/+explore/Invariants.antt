@@ -1,6 +1,6 @@
-use Rattle.std.proofs.Common.{◌≡◌, ◌⊎◌, ℕ, ◌+◌, ◌-◌, ◌≤◌, false, length, drop}
+use Rattle.std.proofs.Common.{◌≡◌, ◌+◌, ◌-◌, ◌≤◌, false, length, drop}
 use Rattle.price_master.specs.Bids.{AreChosen}
-use Rattle.price_master.specs.Classes.{CanTake, free_of, tries_of}
+use Rattle.price_master.specs.Classes.{free_of, tries_of}
 use Rattle.price_master.proofs.Tried.{AreTried}
 use Rattle.price_master.proofs.exploring.+explore.Given as goal
 

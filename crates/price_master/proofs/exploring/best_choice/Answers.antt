@@ -1,9 +1,9 @@
-use Rattle.std.proofs.Common.{◌≡◌, ℕ, ◌+◌, ◌<◌, ◌≤◌, List, length, get_or, refl, subst, sym, ap, arith, drop}
+use Rattle.std.proofs.Common.{◌+◌, ◌≤◌, List, length, refl, subst, sym, arith}
 use Rattle.price_master.specs.declared.alike.ClassBid.{ClassBid}
 use Rattle.price_master.specs.Classes.{AreClassBids, CanTake, free_of, tries_of}
 use Rattle.price_master.proofs.Singles.{homes-fixed}
 use Rattle.price_master.proofs.Taking.{saves-take}
-use Rattle.price_master.proofs.Tried.{all-free}
+use Rattle.price_master.proofs.Freed.{all-free}
 use Rattle.price_master.proofs.Tries.{tries-turns}
 use Rattle.price_master.proofs.exploring.best_choice.Goals as goal
 

@@ -1,4 +1,4 @@
-use Rattle.std.proofs.Common.{◌≡◌, ℕ, ◌<◌, ◌≤◌, refl, arith, Some, slice_get}
+use Rattle.std.proofs.Common.{refl, arith}
 use Rattle.std.proofs.lemmas.Option.{slice_get_within}
 use Rattle.price_master.proofs.Singles.{homes-chosen}
 use Rattle.price_master.proofs.exploring.best_single.Goals as goal

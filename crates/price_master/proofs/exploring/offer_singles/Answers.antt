@@ -1,10 +1,9 @@
-use Rattle.std.proofs.Common.{◌≡◌, ◌⊎◌, inl, inr, ℕ, ◌+◌, ◌<◌, ◌≤◌, List, length, get_or, set, ap, sym, ◌∙◌, subst, arith, Some, slice_get}
+use Rattle.std.proofs.Common.{◌≡◌, ◌⊎◌, inl, inr, ℕ, ◌+◌, ◌<◌, ◌≤◌, List, length, get_or, ap, sym, ◌∙◌, subst, arith, Some, slice_get}
 use Rattle.std.proofs.lemmas.Option.{slice_get-get_or, slice_get_within}
 use Rattle.price_master.specs.declared.bidding.Bid.{Bid}
 use Rattle.price_master.specs.Bids.{AreChosen}
 use Rattle.price_master.proofs.Singles.{chosen-either, single-chosen}
-use Rattle.price_master.proofs.Lookups.{same-or-not}
-use Rattle.price_master.proofs.Trying.{element-at}
+use Rattle.price_master.proofs.Lookups.{element-at, same-or-not}
 use Rattle.price_master.proofs.exploring.offer_singles.Goals as goal
 
 abbrev none : Bid

@@ -1,6 +1,6 @@
-use Rattle.std.proofs.Common.{◌≡◌, ℕ, ◌≤◌, ap, sym, arith, drop, get_or}
+use Rattle.std.proofs.Common.{◌≡◌, ap, arith, drop, get_or}
 use Rattle.price_master.specs.Classes.{first_saving, sum_free}
-use Rattle.price_master.proofs.Tried.{hope-holds}
+use Rattle.price_master.proofs.Bounded.{hope-holds}
 use Rattle.price_master.proofs.hoping.hope_of.Goals as goal
 
 pub returns-clause-most : goal.returns-clause-most

@@ -1,4 +1,4 @@
-use Rattle.std.proofs.Common.{◌≡◌, ℕ, ◌≤◌, true, refl, sym, subst, arith, length}
+use Rattle.std.proofs.Common.{arith}
 use Rattle.price_master.proofs.Picks.{bids-below, bids-seen, cut-plan, least-pooled, plan-of}
 use Rattle.price_master.proofs.Serving.{sensible}
 use Rattle.price_master.proofs.picking.pick.Goals as goal

@@ -1,4 +1,4 @@
-use Rattle.std.proofs.Common.{◌≡◌, ◌∙◌, ap, sym, true, List, rules}
+use Rattle.std.proofs.Common.{◌∙◌, ap, sym, List, rules}
 use Rattle.std.proofs.lemmas.Slice.Eq.{slice_eq-Decides}
 use Rattle.duty_plan.specs.declared.duties.Duty.{Duty}
 use Rattle.duty_plan.specs.declared.duties.Step.{Step}

@@ -1,4 +1,4 @@
-use Rattle.std.proofs.Common.{◌≡◌, ◌<◌, refl, sym, arith, length, map, set}
+use Rattle.std.proofs.Common.{◌<◌, refl, arith, length}
 use Rattle.price_master.proofs.Adding.{adds-to, had, on-err, on-ok, pool-after, stays-so}
 use Rattle.price_master.proofs.pooling.Pool.add.Goals as goal
 
