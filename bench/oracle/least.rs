@@ -20,6 +20,7 @@
 use crate::duties::{judge, Act, Step};
 use crate::walk::Walk;
 use crate::weeks::{Driver, Kind, Mark, Week, WEEK};
+use std::collections::BTreeMap;
 
 const NEVER: u32 = 1_000_000;
 const PLAIN_OFFS: [u32; 5] = [0, 15, 30, 45, 180];
@@ -68,30 +69,28 @@ struct Search<'a> {
     driver: &'a Driver,
     roads: Roads,
     fronts: Vec<Front>,
-    ending: Vec<Vec<usize>>,
+    /// by minute, then by place and by what was served
+    ending: Vec<BTreeMap<(usize, u32), Vec<usize>>>,
 }
 
 impl Search<'_> {
     fn has_served(front: &Front, order: usize) -> bool { front.served >> order & 1 == 1 }
 
     /// The orders that could still be reached in their windows, were there no hours rules.
-    fn servable(&self, front: &Front) -> Vec<usize> {
-        let at = front.walk.at as u32;
-        (0..self.week.orders.len())
-            .filter(|order| {
-                let asked = &self.week.orders[*order];
-                let arrival = at + self.roads.minutes[front.place][asked.place];
-                !Self::has_served(front, *order) && arrival <= asked.closes
-            })
-            .collect()
+    fn servable<'b>(&'b self, front: &'b Front, at: u32) -> impl Iterator<Item = usize> + 'b {
+        (0..self.week.orders.len()).filter(move |order| {
+            let asked = &self.week.orders[*order];
+            let arrival = at + self.roads.minutes[front.place][asked.place];
+            !Self::has_served(front, *order) && arrival <= asked.closes
+        })
     }
 
-    /// Whether the duty may still save something, by prices and cents alone.
-    fn may_save(&self, front: &Front) -> bool {
+    /// Whether the duty may still save something, by prices and cents alone, where it goes on from this minute.
+    fn may_save(&self, front: &Front, at: u32) -> bool {
         let served = (0..self.week.orders.len()).filter(|order| Self::has_served(front, *order));
-        let saved: u64 = served.chain(self.servable(front)).map(|order| self.week.orders[order].price).sum();
-        let home = front.walk.at + self.roads.minutes[front.place][0] as i64;
-        home <= WEEK as i64 && front.cents + self.roads.cents[front.place][0] < saved
+        let saved: u64 = served.chain(self.servable(front, at)).map(|order| self.week.orders[order].price).sum();
+        let home = at + self.roads.minutes[front.place][0];
+        home <= WEEK && front.cents + self.roads.cents[front.place][0] < saved
     }
 
     fn acts(&self, front: &Front, servable: &[usize]) -> Vec<Act> {
@@ -119,7 +118,8 @@ impl Search<'_> {
     /// When a rest may end: see the file's head.
     fn rest_ends(&self, front: &Front, kind: Kind, servable: &[usize]) -> Vec<u32> {
         let least = self.rest_end(front, if kind == Kind::Daily { 540 } else { 1_440 });
-        let last = servable.iter().map(|order| self.week.orders[*order].closes).max().unwrap_or(0);
+        let latest = |order: &usize| self.week.orders[*order].closes - self.roads.minutes[front.place][self.week.orders[*order].place];
+        let last = servable.iter().map(latest).max().unwrap_or(0);
         let mut ends: Vec<u32> = (least..=last).step_by(self.week.grid as usize).collect();
         if kind == Kind::Daily {
             ends.push(least);
@@ -179,19 +179,18 @@ impl Search<'_> {
                 (Mark::Work, self.week.load)
             }
         };
-        if start + minutes > WEEK || !front.walk.go(Mark::Ready, ready) {
+        if start + minutes > WEEK || !self.may_save(&front, start + minutes) || !front.walk.go(Mark::Ready, ready) {
             return None;
         }
         if off > 0 || kind != Kind::Plain {
             front.walk.rest(off, kind);
         }
-        (front.walk.go(mark, minutes) && self.may_save(&front)).then_some(front)
+        front.walk.go(mark, minutes).then_some(front)
     }
 
+    /// Whether a front is as good as another that ends with it, at the same place with the same orders served.
     fn is_no_worse(one: &Front, other: &Front) -> bool {
-        one.place == other.place
-            && one.served == other.served
-            && one.used <= other.used
+        one.used <= other.used
             && (one.loaded || !other.loaded)
             && (!one.has_spare || other.has_spare)
             && one.cents <= other.cents
@@ -200,19 +199,19 @@ impl Search<'_> {
 
     /// Keeps a front where none that ends with it is as good; those that it betters go.
     fn store(&mut self, front: Front) {
-        let minute = front.walk.at as usize;
         let Search { fronts, ending, .. } = self;
-        if ending[minute].iter().any(|number| Self::is_no_worse(&fronts[*number], &front)) {
+        let alike = ending[front.walk.at as usize].entry((front.place, front.served)).or_default();
+        if alike.iter().any(|number| Self::is_no_worse(&fronts[*number], &front)) {
             return;
         }
-        ending[minute].retain(|number| !Self::is_no_worse(&front, &fronts[*number]));
-        ending[minute].push(fronts.len());
+        alike.retain(|number| !Self::is_no_worse(&front, &fronts[*number]));
+        alike.push(fronts.len());
         fronts.push(front);
     }
 
     fn extend(&mut self, number: usize) {
         let front = self.fronts[number].clone();
-        let servable = self.servable(&front);
+        let servable: Vec<usize> = self.servable(&front, front.walk.at as u32).collect();
         if front.place == 0 && servable.is_empty() {
             return;
         }
@@ -242,13 +241,13 @@ fn duties_of(week: &Week, driver: &Driver) -> Result<(Vec<Option<(u64, Vec<Step>
     let first = Front {
         walk, place: 0, served: 0, used: 0, loaded: false, has_spare: false, cents: 0, parent: usize::MAX, step: None,
     };
-    let ending = vec![Vec::new(); WEEK as usize + 1];
+    let ending = vec![BTreeMap::new(); WEEK as usize + 1];
     let mut search = Search { week, driver, roads: roads_of(week), fronts: vec![first], ending };
     let mut best: Vec<Option<(u64, Vec<Step>)>> = vec![None; 1 << week.orders.len()];
     best[0] = Some((0, Vec::new()));
     search.extend(0);
     for minute in 0..=WEEK as usize {
-        for number in search.ending[minute].clone() {
+        for number in std::mem::take(&mut search.ending[minute]).into_values().flatten() {
             let front = &search.fronts[number];
             let known = &mut best[front.served as usize];
             if front.place == 0 && known.as_ref().is_none_or(|(cents, _)| front.cents < *cents) {

@@ -1,5 +1,5 @@
-//! The hours rules once more, for the enumeration: what a driver has behind him at a minute, moved on minute by minute. What this
-//! walk lets pass is judged again by `rules`, which counts everything afresh.
+//! The hours rules once more, for the enumeration: what a driver has behind him at a minute, moved on act by act. What this walk
+//! lets pass is judged again by `rules`, which counts everything afresh at every minute.
 
 use crate::weeks::{Kind, Mark, Past, WEEK};
 
@@ -41,13 +41,11 @@ impl Walk {
             due: past.due_weeks as i64 * WEEK as i64, prev_drive: past.prev_drive, work_before: past.work16.iter().sum(),
         };
         for stint in &past.stints {
-            for _ in 0..stint.minutes {
-                match stint.mark {
-                    Mark::Off => walk.rest(1, stint.kind),
-                    mark => {
-                        walk.end_run();
-                        walk.count(mark);
-                    }
+            match stint.mark {
+                Mark::Off => walk.rest(stint.minutes, stint.kind),
+                mark => {
+                    walk.end_run();
+                    walk.count(mark, stint.minutes);
                 }
             }
         }
@@ -67,14 +65,16 @@ impl Walk {
         self.kind = kind;
     }
 
-    /// So many on-duty minutes more, where none of them breaks a rule.
+    /// So many on-duty minutes more, where none of them breaks a rule. On the way every count only grows, and each rule but the one
+    /// on a rest's length, which the first minute meets, is a limit on what grows: the last minute keeps it where each one does.
     pub fn go(&mut self, mark: Mark, minutes: u32) -> bool {
-        (0..minutes).all(|_| {
-            let is_long_enough = self.ends_long_enough();
-            self.end_run();
-            self.count(mark);
-            is_long_enough && self.keeps_rules(mark)
-        })
+        if minutes == 0 {
+            return true;
+        }
+        let is_long_enough = self.ends_long_enough();
+        self.end_run();
+        self.count(mark, minutes);
+        is_long_enough && self.keeps_rules(mark)
     }
 
     fn ends_long_enough(&self) -> bool {
@@ -128,9 +128,10 @@ impl Walk {
         }
     }
 
-    fn count(&mut self, mark: Mark) {
-        self.at += 1;
-        let (drives, works) = ((mark == Mark::Drive) as u32, matches!(mark, Mark::Drive | Mark::Work) as u32);
+    fn count(&mut self, mark: Mark, minutes: u32) {
+        self.at += minutes as i64;
+        let drives = if mark == Mark::Drive { minutes } else { 0 };
+        let works = if matches!(mark, Mark::Drive | Mark::Work) { minutes } else { 0 };
         self.period_drive += drives;
         self.day_drive += drives;
         self.week_drive += drives;
