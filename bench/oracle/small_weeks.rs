@@ -2,7 +2,7 @@
 //! generator: x begins as the seed, and a draw of m sets x to x * 6364136223846793005 + 1442695040888963407 modulo 2^64 and gives
 //! (x / 2^33) mod m, rounded down.
 //!
-//! The last digit of eight of the seed is the week's shape, so that each is met often; all else is drawn.
+//! The seed modulo nine is the week's shape, so that each is met often; all else is drawn.
 
 use std::fmt::Write;
 
@@ -21,10 +21,11 @@ impl Draws {
 
 /// What a week of this kind is about.
 #[derive(Clone, Copy, PartialEq, Eq)]
-enum Shape { Breaks, TwoTrips, Night, Edges, ReducedRests, LittleTime, Fees, Alike }
+enum Shape { Breaks, TwoTrips, Night, Edges, ReducedRests, LittleTime, Fees, Alike, Corners }
 
-const SHAPES: [Shape; 8] = [
+const SHAPES: [Shape; 9] = [
     Shape::Breaks, Shape::TwoTrips, Shape::Night, Shape::Edges, Shape::ReducedRests, Shape::LittleTime, Shape::Fees, Shape::Alike,
+    Shape::Corners,
 ];
 
 /// The stamp of a minute from Monday, which may lie up to four weeks before it: 2026-02-01 is 29 days before, a February of 28.
@@ -93,8 +94,9 @@ fn roads(draws: &mut Draws, shape: Shape, text: &mut String) -> (u32, u32) {
         Shape::Breaks => (draws.one_of(&[120, 150, 180, 240]), draws.one_of(&[120, 150, 165])),
         _ => (draws.one_of(&[45, 60, 90, 120, 185, 270]), draws.one_of(&[30, 60, 100, 150])),
     };
+    let cents = if shape == Shape::Corners && draws.below(3) == 0 { 0 } else { 20 };
     for (from, to, minutes) in [("HUB", "P", near), ("P", "HUB", near), ("P", "F", far), ("F", "P", far)] {
-        writeln!(text, "leg,{from},{to},{minutes},{}", 20 * minutes + 100).unwrap();
+        writeln!(text, "leg,{from},{to},{minutes},{}", cents * (minutes + 5)).unwrap();
     }
     if draws.below(3) == 0 {
         let minutes = (near + far - 15).min(270);
@@ -123,7 +125,8 @@ fn drivers(draws: &mut Draws, shape: Shape, text: &mut String) {
     }
 }
 
-/// The window of an order: at the edge of an arrival, a short night after the order before, or some hours of a day.
+/// The window of an order: at the edge of an arrival, a short night after the order before, just in time to be home on Sunday
+/// night, or some hours of a day.
 fn window(draws: &mut Draws, shape: Shape, number: usize, load: u32, near: u32) -> (u32, u32) {
     match shape {
         Shape::Edges => {
@@ -134,6 +137,10 @@ fn window(draws: &mut Draws, shape: Shape, number: usize, load: u32, near: u32) 
         Shape::ReducedRests => {
             let opens = 300 + number as u32 * draws.one_of(&[840, 900, 1_020, 1_260]);
             (opens, opens + draws.one_of(&[60, 120, 180]))
+        }
+        Shape::Corners if draws.below(2) == 0 => {
+            let closes = 10_080 - near - draws.one_of(&[14, 15, 15, 16, 45, 60]);
+            (closes - draws.one_of(&[0, 0, 30, 240]), closes)
         }
         _ => {
             let opens = 1_440 * draws.one_of(&[0, 0, 1, 2]) + draws.one_of(&[0, 240, 360, 480, 600]);
@@ -153,9 +160,9 @@ fn orders(draws: &mut Draws, shape: Shape, text: &mut String, load: u32, near: u
         let place = if shape == Shape::Breaks || shape == Shape::Night { "F" } else { place };
         let (opens, closes) = window(draws, shape, number, load, near);
         let service = draws.one_of(&[15, 30, 60, 240]);
-        let kg = draws.one_of(&[6_000, 12_000, 12_000]);
+        let kg = if shape == Shape::Corners { draws.one_of(&[0, 12_001, 12_000]) } else { draws.one_of(&[6_000, 12_000, 12_000]) };
         let least = if matches!(shape, Shape::Breaks | Shape::Night | Shape::Fees) { 15_000 } else { 5_000 };
-        let price = least + 1_000 * draws.below(30);
+        let price = if shape == Shape::Corners && draws.below(4) == 0 { 0 } else { least + 1_000 * draws.below(30) };
         let (opens, closes) = (stamp(opens as i64), stamp(closes as i64));
         writeln!(text, "order,{},{place},{opens},{closes},{service},{kg},{price}", ["A", "B", "C"][number]).unwrap();
     }
