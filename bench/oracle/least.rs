@@ -145,6 +145,30 @@ impl Search<'_> {
         stays
     }
 
+    /// Does the act's part of the office rules: where the lorry is then, its load and its cents. Gives the act's mark and minutes.
+    fn act(&self, front: &mut Front, act: Act, start: u32) -> Option<(Mark, u32)> {
+        match act {
+            Act::Drive(to) => {
+                let leg = self.week.leg(front.place, to)?;
+                front.place = to;
+                front.cents += leg.cents;
+                Some((Mark::Drive, leg.minutes))
+            }
+            Act::Serve(order) => {
+                let asked = &self.week.orders[order];
+                front.served |= 1 << order;
+                front.used += asked.kg;
+                (asked.opens..=asked.closes).contains(&start).then_some((Mark::Work, asked.service))
+            }
+            Act::Load => {
+                front.has_spare |= front.loaded && front.used == 0;
+                (front.used, front.loaded) = (0, true);
+                Some((Mark::Work, self.week.load))
+            }
+        }
+    }
+
+    /// The front with one step more, where the rules let it and it may still save something.
     fn child(&self, number: usize, act: Act, stay: (u32, u32, Kind)) -> Option<Front> {
         let (ready, off, kind) = stay;
         let mut front = self.fronts[number].clone();
@@ -157,28 +181,7 @@ impl Search<'_> {
         if kind == Kind::Daily && front.place != 0 {
             front.cents += self.week.night;
         }
-        let (mark, minutes) = match act {
-            Act::Drive(to) => {
-                let leg = self.week.leg(front.place, to)?;
-                front.place = to;
-                front.cents += leg.cents;
-                (Mark::Drive, leg.minutes)
-            }
-            Act::Serve(order) => {
-                let asked = &self.week.orders[order];
-                if start < asked.opens || start > asked.closes {
-                    return None;
-                }
-                front.served |= 1 << order;
-                front.used += asked.kg;
-                (Mark::Work, asked.service)
-            }
-            Act::Load => {
-                front.has_spare |= front.loaded && front.used == 0;
-                (front.used, front.loaded) = (0, true);
-                (Mark::Work, self.week.load)
-            }
-        };
+        let (mark, minutes) = self.act(&mut front, act, start)?;
         if start + minutes > WEEK || !self.may_save(&front, start + minutes) || !front.walk.go(Mark::Ready, ready) {
             return None;
         }
@@ -235,15 +238,18 @@ impl Search<'_> {
     }
 }
 
-/// For each set of orders the cheapest duty found that serves just these.
-fn duties_of(week: &Week, driver: &Driver) -> Result<(Vec<Option<(u64, Vec<Step>)>>, usize), String> {
+/// For each set of orders, by bits, the cheapest duty found that serves just these, with its cents.
+type Cheapest = Vec<Option<(u64, Vec<Step>)>>;
+
+/// The cheapest duties of a driver, and how many fronts were kept.
+fn duties_of(week: &Week, driver: &Driver) -> Result<(Cheapest, usize), String> {
     let walk = Walk::after(&driver.past);
     let first = Front {
         walk, place: 0, served: 0, used: 0, loaded: false, has_spare: false, cents: 0, parent: usize::MAX, step: None,
     };
     let ending = vec![BTreeMap::new(); WEEK as usize + 1];
     let mut search = Search { week, driver, roads: roads_of(week), fronts: vec![first], ending };
-    let mut best: Vec<Option<(u64, Vec<Step>)>> = vec![None; 1 << week.orders.len()];
+    let mut best: Cheapest = vec![None; 1 << week.orders.len()];
     best[0] = Some((0, Vec::new()));
     search.extend(0);
     for minute in 0..=WEEK as usize {

@@ -74,10 +74,10 @@ impl Line {
     fn ended(&self, place: usize) -> &[Run] { &self.runs[..self.runs.partition_point(|run| run.to <= place)] }
 
     /// Where the work day of a place begins.
-    fn day(&self, place: usize) -> usize { self.ended(place).iter().filter(|run| run.is_rest()).map(|run| run.to).last().unwrap_or(0) }
+    fn day(&self, place: usize) -> usize { self.ended(place).iter().filter(|run| run.is_rest()).map(|run| run.to).next_back().unwrap_or(0) }
 
     fn last_weekly(&self, place: usize) -> usize {
-        self.ended(place).iter().filter(|run| run.kind == Kind::Weekly).map(|run| run.to).last().unwrap_or(0)
+        self.ended(place).iter().filter(|run| run.kind == Kind::Weekly).map(|run| run.to).next_back().unwrap_or(0)
     }
 
     /// Where the driving period of a place begins: after the last full break, which is a run of 45, or one of 30 with a run of 15
@@ -132,7 +132,7 @@ impl Line {
     fn ends_long_enough(&self, past: &Past, place: usize) -> bool {
         let ended = self.ended(place);
         let Some((run, before)) = ended.split_last().filter(|(run, _)| run.to == place) else { return true };
-        let previous = before.iter().filter(|run| run.kind == Kind::Weekly).map(|run| run.length()).last();
+        let previous = before.iter().filter(|run| run.kind == Kind::Weekly).map(|run| run.length()).next_back();
         let owes = self.debt(past, before).0 > 0;
         match run.kind {
             Kind::Plain => true,
@@ -174,7 +174,7 @@ impl Line {
         let pauses = |from: usize| self.ended(place).iter().filter(move |run| run.from >= from && run.length() >= 15);
         let week = self.work(self.monday, place + 1);
         let before: usize = past.work16.iter().map(|minutes| *minutes as usize).sum();
-        let since_pause = pauses(0).last().map_or(0, |run| run.to);
+        let since_pause = pauses(0).next_back().map_or(0, |run| run.to);
         let today = self.work(day, place + 1);
         let paused: usize = pauses(day).map(|run| run.length()).sum();
         let holds = [
