@@ -1,7 +1,7 @@
 use Rattle.std.proofs.Common.{refl, arith}
 use Rattle.duty_plan.specs.declared.pricing.Priced.TheVariants.{Least}
 use Rattle.duty_plan.proofs.Lists.{slice_get-lt}
-use Rattle.price_master.proofs.Trying.{element-at}
+use Rattle.price_master.proofs.Lookups.{element-at}
 use Rattle.branch_tree.proofs.PooledRounds.{pooled-more}
 use Rattle.branch_tree.proofs.taking.pool_round.Goals as goal
 
