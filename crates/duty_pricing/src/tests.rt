@@ -9,8 +9,8 @@ ghost use Rattle.duty_plan.specs.Values.{IsPairs, IsPrices};
 ghost use Rattle.label_arena.specs.Views.{IsNew};
 ghost use Rattle.duty_pricing.specs.Finding.{IsEmpty};
 
-use super::{Found, Scratch, Slot, give_back, make_scratch, price_driver};
-use duty_plan::{Act, Case, Pair, Pairs, Prices};
+use super::{Found, Scratch, Slot, give_back, guess_duty, make_scratch, price_driver};
+use duty_plan::{Act, Case, Pair, Pairs, Prices, Step};
 use label_arena::{Arena, Round, Seat};
 use minute_line::{History, Line, Many, Memory, Monday, Name, read_monday};
 use std::alloc::Global;
@@ -149,14 +149,35 @@ fn prepared(alloc: Global, monday: Monday, pair: Pair, closes: u8) -> Result<Des
     })
 }
 
-/// What a pricing found, how many labels it stored, and the acts of its duty. The chunks are given back.
+/// What a pricing found, how many labels it stored, and whether the acts of its duty are those that are expected.
+#[derive(Clone, Copy, PartialEq, Eq, Debug)]
+struct Answer {
+    found: Found,
+    stored: u32,
+    has_acts: bool,
+}
+
+/// Whether steps have these acts, in turn.
+fn have_acts(steps: &[Step], acts: &[Act]) -> bool {
+    if steps.len() != acts.len() {
+        return false;
+    }
+    for (step, act) in steps.iter().zip(acts) {
+        if step.act != *act {
+            return false;
+        }
+    }
+    true
+}
+
+/// What a pricing finds, where a duty of these acts is expected. The chunks are given back.
 fn priced(
-    alloc: Global,
     desk: &Desk,
+    acts: &[Act],
     round: &Round<Slot>,
     seat: &mut Seat<Slot>,
     scratch: &mut Scratch,
-) -> Result<(Found, u32, Vec<Act>), Memory>
+) -> Answer
     requires case { IsCase desk.now.case }
     requires driver { 0 < length desk.now.case.week.drivers }
     requires pairs { IsPairs desk.now.case.week desk.now.pairs }
@@ -177,19 +198,20 @@ fn priced(
     );
     let stored = scratch.labels.slots.len();
     give_back(round, seat, scratch);
-    let mut acts = Vec::new(alloc);
-    for step in scratch.steps() {
-        acts.push(step.act)?;
+    Answer {
+        found,
+        stored,
+        has_acts: have_acts(scratch.steps(), acts),
     }
-    Ok((found, stored, acts))
 }
 
-/// What two pricings found in turn, with one scratch and so many chunks.
+/// What two pricings find in turn, with one scratch and so many chunks, where a duty of these acts is expected.
 fn priced_twice(
     alloc: Global,
     desk: &Desk,
+    acts: &[Act],
     chunks: u32,
-) -> Result<((Found, u32, Vec<Act>), (Found, u32, Vec<Act>)), Memory>
+) -> Result<[Answer; 2], Memory>
     requires case { IsCase desk.now.case }
     requires driver { 0 < length desk.now.case.week.drivers }
     requires pairs { IsPairs desk.now.case.week desk.now.pairs }
@@ -205,45 +227,56 @@ fn priced_twice(
     let Some(mut second) = seats.pop() else {
         unreachable!()
     };
-    Ok((
-        priced(alloc, desk, &round, &mut first, &mut scratch)?,
-        priced(alloc, desk, &round, &mut second, &mut scratch)?,
-    ))
+    Ok([
+        priced(desk, acts, &round, &mut first, &mut scratch),
+        priced(desk, acts, &round, &mut second, &mut scratch),
+    ])
 }
 
 /// The acts of the trip.
 const TRIP: &[Act] = &[Act::Load, Act::Leg(1), Act::Serve(0), Act::Leg(0)];
 
 /// What is decided of the order, when its window closes, the chunks, what is found, and the acts of the duty.
-const FOUND: [(Pair, u8, u32, Found, &[Act]); 6] = [
+const FOUND: [(Pair, u8, u32, Found, &[Act]); 5] = [
     (Pair::Free, 80, 8, Found::Least(-1000), TRIP),
     (Pair::Forced, 75, 8, Found::Least(-1000), TRIP),
     (Pair::Forced, 59, 8, Found::NoDuty, &[]),
-    (Pair::Free, 74, 8, Found::Least(0), &[]),
     (Pair::Barred, 80, 2, Found::Least(0), &[]),
     (Pair::Free, 80, 0, Found::Spent(0), &[]),
 ];
 
-// By hand: the trip costs the fee of 2,000 and two legs of 3,000, and is paid 9,000, so it is worth -1,000. Without the order no
-// step pays, so the empty duty is the least, at 0; where the order is forced and out of reach, there is no duty.
+// By hand: the trip costs the fee of 2,000 and two legs of 3,000, and is paid 9,000, so it is worth -1,000. Where the order is barred
+// no step pays, so the empty duty is the least, at 0, and its label alone is stored; where it is forced and out of reach, there is no
+// duty.
 #[test]
 fn the_trip_is_worth_its_price(rt: HostRuntime) {
     let monday = read_monday("2026-03-02").expect(&rt, "a Monday");
-    for (pair, closes, chunks, expected, acts) in FOUND {
+    for (pair, closes, chunks, found, acts) in FOUND {
         let desk = prepared(rt.alloc(), monday, pair, closes).expect(&rt, "memory");
-        let (first, second) = priced_twice(rt.alloc(), &desk, chunks).expect(&rt, "memory");
-        let (found, stored, steps) = first;
-        let (again, restored, retaken) = second;
-        assert!(rt; found == expected, "{pair:?}, {closes}: {found:?}");
-        assert!(rt; again == expected, "{pair:?}, {closes}: {again:?}");
-        assert!(rt; steps.as_slice() == acts, "{pair:?}, {closes}: {steps:?}");
+        let [first, again] = priced_twice(rt.alloc(), &desk, acts, chunks).expect(&rt, "memory");
         assert!(rt;
-            retaken.as_slice() == acts,
-            "{pair:?}, {closes}: {retaken:?}"
+            first.found == found && first.has_acts,
+            "{pair:?}, {closes}: {first:?}"
         );
-        assert!(rt; restored == stored, "{stored}, then {restored} labels");
-        if pair == Pair::Barred {
-            assert!(rt; stored == 1, "{stored} labels");
-        }
+        assert!(rt; again == first, "{first:?}, then {again:?}");
+        assert!(rt; pair != Pair::Barred || first.stored == 1, "{first:?}");
+    }
+}
+
+/// What is decided of the order, when its window closes, and whether a duty is guessed.
+const GUESSED: [(Pair, u8, bool); 3] = [
+    (Pair::Forced, 75, true),
+    (Pair::Forced, 59, false),
+    (Pair::Barred, 80, true),
+];
+
+#[test]
+fn a_duty_is_guessed_where_there_is_one(rt: HostRuntime) {
+    let monday = read_monday("2026-03-02").expect(&rt, "a Monday");
+    for (pair, closes, expected) in GUESSED {
+        let desk = prepared(rt.alloc(), monday, pair, closes).expect(&rt, "memory");
+        let mut scratch = make_scratch(rt.alloc()).expect(&rt, "memory");
+        let guessed = guess_duty(&desk.case, 0, &desk.pairs, &desk.prices, &mut scratch);
+        assert!(rt; guessed == expected, "{pair:?}, {closes}: {guessed}");
     }
 }
