@@ -45,7 +45,7 @@ impl Kind {
     fn is_rest(self) -> bool { self != Kind::Plain }
 }
 
-fn least_run(kind: Kind, weekly: u32, owed: u32) -> u32 {
+pub fn least_run(kind: Kind, weekly: u32, owed: u32) -> u32 {
     match kind {
         Kind::Plain => 0,
         Kind::Daily => 540,
