@@ -17,8 +17,8 @@ use minute_line::Memory;
 use price_master::{empty_pool, start_prices};
 use std::alloc::Global;
 
-/// How many drivers may be priced before the passes, and again in them, where drivers who are alike count as one: some ten
-/// seconds each on one processor.
+/// How many drivers are priced before the passes, and again in them, where drivers who are alike count as one. It is some ten
+/// seconds each on one processor. The last guess may go past it, by fewer than a week's drivers.
 const MOST_PRICINGS: u32 = 256;
 
 /// More passes than their pricings suffice for, unless nothing is guessed.
