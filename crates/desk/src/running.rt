@@ -13,7 +13,7 @@ use desk_core::{Refusal, Stop, check_text, plan_text, refusal_line};
 use desk_io::{ReadError, Sink, SinkFault, Source, read_all, write_all};
 use duty_plan::{Gate, Straight};
 use minute_line::{Bytes, Memory};
-use planners::TurnPlanner;
+use planners::PoolPlanner;
 use std::alloc::Global;
 use std::thread::Threads;
 
@@ -76,7 +76,7 @@ fn answer<R: Threads + Sync>(
     ensures { AnswersAsk ask text.now result }
 {
     match ask {
-        Ask::Plan(limits) => plan_text(rt, gate, alloc, text, &limits, &mut TurnPlanner),
+        Ask::Plan(limits) => plan_text(rt, gate, alloc, text, &limits, &mut PoolPlanner),
         Ask::Check => check_text(alloc, text),
     }
 }
@@ -126,8 +126,8 @@ fn run<R: Threads + Sync, S: Source, K: Sink>(
 /// One run of the desk: what it is asked by `words`, over a text that it reads from `source`, is written to `sink`. The
 /// status is 0 where the report or the verdicts were written; 2, with the usage line, for words that are no command; 3 or
 /// 4, with its line, where the text is refused; 5, with `refused read`, where the source failed; 6 where the sink failed,
-/// which then took a beginning of the text; 8 for want of memory, with nothing written. Drivers are priced in turn, so
-/// nobody passes the gate.
+/// which then took a beginning of the text; 8 for want of memory, with nothing written. In each round of prices each
+/// driver's worker passes the gate before it prices.
 pub fn run_gated<R: Threads + Sync, S: Source, K: Sink>(
     rt: &R,
     gate: &(dyn Gate + Sync),

@@ -2,10 +2,12 @@
 // with drivers and verdicts stand in .ci/rows.
 ghost use Rattle.std.specs.Prelude.{◌<◌};
 
-use crate::run_desk;
+use crate::run_gated;
 use desk_io::{MemorySource, memory_sink};
+use duty_plan::{Gate, Straight};
 use minute_line::{Bytes, Many, Memory};
 use std::alloc::Global;
+use std::sync::atomic::{AtomicBool, Ordering};
 use std::test::Fail;
 use std::thread::Threads;
 
@@ -184,10 +186,11 @@ const NO_COMMANDS: [&[&str]; 13] = [
     &["plan", "--nodes", "1", "--labels", "0", "--nodes", "1"],
 ];
 
-/// What a run over a text in memory ends with, and what its sink then holds. The devices move at most `piece` bytes in a
-/// call, and the calls of these numbers fail.
-fn run_with<R: Threads + Sync>(
+/// What a run over a text in memory ends with, and what its sink then holds. The workers pass the gate, the devices move at
+/// most `piece` bytes in a call, and the calls of these numbers fail.
+fn run_at<R: Threads + Sync>(
     rt: &R,
+    gate: &(dyn Gate + Sync),
     alloc: Global,
     words: &[&str],
     text: &[u8],
@@ -209,8 +212,22 @@ fn run_with<R: Threads + Sync>(
         faults: 0,
     };
     let mut sink = memory_sink(alloc, ROOM, piece, Many::from_slice(alloc, &[fails.1])?)?;
-    let status = run_desk(rt, alloc, &given, &mut source, &mut sink);
+    let status = run_gated(rt, gate, alloc, &given, &mut source, &mut sink);
     Ok((status, Vec::from_slice(alloc, sink.held.as_slice())?))
+}
+
+/// The same, with the gate that lets everybody through.
+fn run_with<R: Threads + Sync>(
+    rt: &R,
+    alloc: Global,
+    words: &[&str],
+    text: &[u8],
+    piece: usize,
+    fails: (u64, u64),
+) -> Result<(u8, Vec<u8>), Memory>
+    requires { 0 < piece }
+{
+    run_at(rt, &Straight, alloc, words, text, piece, fails)
 }
 
 /// Whether a run of one word ends with this status, having written this.
@@ -349,5 +366,58 @@ fn a_week_may_have_120_orders(rt: HostRuntime) -> Result<(), Fail> {
             "at {orders} orders"
         );
     }
+    Ok(())
+}
+
+/// How often a worker looks for the other's flag.
+const LOOKS: u32 = 100_000_000;
+
+/// A gate of two flags: who passes raises his own, and looks for the other's.
+#[derive(Drop)]
+struct TwoFlags {
+    raised: [AtomicBool; 2],
+    seen: [AtomicBool; 2],
+}
+
+impl Gate for TwoFlags {
+    fn pass(&self, worker: u32) {
+        if worker > 1 {
+            return;
+        }
+        let own = worker as usize;
+        self.raised[own].store(true, Ordering::SeqCst);
+        for _ in 0..LOOKS {
+            if self.raised[1 - own].load(Ordering::SeqCst) {
+                self.seen[own].store(true, Ordering::SeqCst);
+                return;
+            }
+        }
+    }
+}
+
+/// A week of two drivers and an order.
+const TWO_DRIVERS: &str =
+    "week,2026-03-02,15,3000,15\nplace,HUB\nplace,P\nleg,HUB,P,60,3000\nleg,P,HUB,60,3000\ndriver,D1,24000,2000\nrest,D1,2026-02-28T00:00,2700\nworked,D1,0,0,0,0,0,0,0,0,0,0,0,0,0,0,0,0,0\npast,D1,OFF,2880\ndriver,D2,24000,2000\nrest,D2,2026-02-28T00:00,2700\nworked,D2,0,0,0,0,0,0,0,0,0,0,0,0,0,0,0,0,0\npast,D2,OFF,2880\norder,A,P,2026-03-02T08:00,2026-03-02T12:00,30,12000,9000\n";
+
+#[test]
+fn two_workers_meet(rt: HostRuntime) -> Result<(), Fail> {
+    let gate = TwoFlags {
+        raised: [AtomicBool::new(false), AtomicBool::new(false)],
+        seen: [AtomicBool::new(false), AtomicBool::new(false)],
+    };
+    let words = ["plan", "--nodes", "1", "--rounds", "1"];
+    let (status, _) = run_at(
+        &rt,
+        &gate,
+        rt.alloc(),
+        &words,
+        TWO_DRIVERS.as_bytes(),
+        4096,
+        (0, 0),
+    )
+    .ok()
+    .ok_or("memory")?;
+    assert_eq!(rt; status, 0);
+    assert!(rt; gate.seen[0].load(Ordering::SeqCst) && gate.seen[1].load(Ordering::SeqCst));
     Ok(())
 }
