@@ -25,7 +25,7 @@ impl Outlook {
             CoversRow week self.now.scale.capacity self.now.scale.unit prices (later_spot spot) result }
     {
         if spot.minute < WEEK_MINUTES {
-            return self.row_at(Spot {
+            return *self.row_at(Spot {
                 place: spot.place,
                 minute: spot.minute + 1,
                 orders: spot.orders,

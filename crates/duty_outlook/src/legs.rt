@@ -26,7 +26,7 @@ impl Outlook {
                 minute: end,
                 orders: spot.orders,
             });
-            raise(row, &next, 0, 32, 0, leg.cents.min(100_000_000));
+            raise(row, next, 0, 32, 0, leg.cents.min(100_000_000));
         }
     }
 

@@ -2,7 +2,6 @@
 ghost use Rattle.std.specs.Prelude.{◌≡◌, ℕ, ◌*◌, ◌<◌, ◌≤◌, IfSome};
 ghost use Rattle.week_book.specs.declared.weeks.Week.{Week};
 ghost use Rattle.duty_plan.specs.declared.pricing.Prices.{Prices};
-ghost use Rattle.duty_outlook.specs.Rows.{number_at};
 
 use crate::layouts::Layout;
 use crate::spots::{Entry, Spot};
@@ -54,11 +53,7 @@ pub struct Outlook {
 }
 
 /// A row at which nothing is known.
-fn full() -> [u64; 32]
-    ensures { (level : ℕ) → level < 32 → 4000000000000 ≤ number_at result level }
-{
-    [LIMIT; 32]
-}
+const FULL: [u64; 32] = [LIMIT; 32];
 
 impl Outlook {
     ghost use Rattle.duty_outlook.specs.Covering.{Covers};
@@ -85,12 +80,12 @@ impl Outlook {
     }
 
     /// The row of the entry that lies there, where it is one for the spot.
-    fn row_in(&self, slot: usize, spot: Spot) -> Option<[u64; 32]>
+    fn row_in(&self, slot: usize, spot: Spot) -> Option<&[u64; 32]>
         ensures { (week : Week) (prices : Prices) → IsFilled week prices self.now →
-            IfSome result (CoversRow week self.now.scale.capacity self.now.scale.unit prices spot) }
+            IfSome result (λ row. CoversRow week self.now.scale.capacity self.now.scale.unit prices spot row.now) }
     {
         match self.entries.get(slot) {
-            Some(entry) if entry.spot.is_within(spot) => Some(entry.numbers),
+            Some(entry) if entry.spot.is_within(spot) => Some(&entry.numbers),
             _ => None,
         }
     }
@@ -120,13 +115,13 @@ impl Outlook {
     }
 
     /// A row for the spot.
-    pub(crate) fn row_at(&self, spot: Spot) -> [u64; 32]
+    pub(crate) fn row_at(&self, spot: Spot) -> &[u64; 32]
         ensures { (week : Week) (prices : Prices) → IsFilled week prices self.now →
-            CoversRow week self.now.scale.capacity self.now.scale.unit prices spot result }
+            CoversRow week self.now.scale.capacity self.now.scale.unit prices spot result.now }
     {
         match self.row_in(self.slot(spot), spot) {
             Some(row) => row,
-            None => full(),
+            None => &FULL,
         }
     }
 }

@@ -71,7 +71,7 @@ impl Outlook {
             });
             let from = order.kg / self.scale.unit;
             let levels = (self.scale.capacity - order.kg) / self.scale.unit + 1;
-            raise(row, &next, from as usize, levels as usize, price, 0);
+            raise(row, next, from as usize, levels as usize, price, 0);
         }
     }
 
