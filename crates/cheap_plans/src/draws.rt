@@ -31,6 +31,20 @@ impl Draws {
     }
 }
 
+/// How many of the duties aren't empty.
+pub(crate) fn used(duties: &[Duty]) -> u32
+    requires { length duties.now ≤ 16 }
+    ensures { result ≤ length duties.now }
+{
+    let mut count = 0;
+    for duty in duties {
+        if !duty.steps.is_empty() {
+            count += 1;
+        }
+    }
+    count
+}
+
 /// For each driver whether a pass may free him: each used one, and the first idle one.
 fn candidates(alloc: Global, duties: &[Duty]) -> Result<Many<bool>, Memory>
     ensures { IfOk result (λ may. length may ≡ length duties.now) }

@@ -8,7 +8,7 @@ ghost use Rattle.cheap_plans.specs.Drafts.{IsDraft};
 
 use crate::diving::{Rounds, dive, fix_first};
 use crate::drafts::{Draft, copied_duties, no_duties};
-use crate::draws::{Draws, some_freed};
+use crate::draws::{Draws, some_freed, used};
 use crate::guessing::Tries;
 use crate::incumbents::{Incumbent, offer_duties, offer_picked};
 use crate::turning::again;
@@ -166,6 +166,7 @@ fn offer_passes<P: Pricer>(
 }
 
 /// The plan, or a cheaper one that the pricer's guesses gave. A guess is trusted only where the plan that it makes is checked.
+/// A plan of fewer than two duties gets no passes.
 pub fn improve<P: Pricer>(
     alloc: Global,
     case: &Case,
@@ -187,6 +188,9 @@ pub fn improve<P: Pricer>(
     offer_again(alloc, case, pricer, &mut tries, &mut better, &mut none)?;
     let prices = offer_dive(alloc, case, pricer, &mut tries, &mut better)?;
     offer_kept(alloc, case, pricer, &mut tries, &mut better)?;
+    if used(better.plan.duties.as_slice()) < 2 {
+        return Ok(better);
+    }
     tries.left = MOST_PRICINGS;
     offer_passes(alloc, case, pricer, &mut tries, &mut better, &prices)?;
     Ok(better)
