@@ -1,0 +1,4 @@
+pub mod DeskCommand
+pub mod SaidMondays
+pub mod SmallPowers
+pub mod BareWords

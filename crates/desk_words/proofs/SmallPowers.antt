@@ -1,0 +1,14 @@
+-- Ten to the power of at most eight.
+use Rattle.std.proofs.Common.{ℕ, zero, suc, ◌^◌, ◌<◌, ◌≤◌, arith}
+
+pub small-power : (i : ℕ) → i < 9 → 10 ^ i ≤ 100000000
+small-power zero l = omega arith
+small-power (suc zero) l = omega arith
+small-power (suc (suc zero)) l = omega arith
+small-power (suc (suc (suc zero))) l = omega arith
+small-power (suc (suc (suc (suc zero)))) l = omega arith
+small-power (suc (suc (suc (suc (suc zero))))) l = omega arith
+small-power (suc (suc (suc (suc (suc (suc zero)))))) l = omega arith
+small-power (suc (suc (suc (suc (suc (suc (suc zero))))))) l = omega arith
+small-power (suc (suc (suc (suc (suc (suc (suc (suc zero)))))))) l = omega arith
+small-power (suc (suc (suc (suc (suc (suc (suc (suc (suc i))))))))) l = absurd (omega (arith, l))
