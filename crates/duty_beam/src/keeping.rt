@@ -29,8 +29,8 @@ impl Nodes {
 
     /// Whether a node of the bucket betters a label.
     fn betters(&self, bucket: usize, label: &Label, forced: u128) -> bool {
-        for place in 0..self.count(bucket) {
-            let node = self.nodes.get(self.member(bucket, place) as usize);
+        for number in self.numbers(bucket) {
+            let node = self.nodes.get(*number as usize);
             if node.is_some_and(|node| node.label.fee_paid && better(&node.label, label, forced)) {
                 return true;
             }
@@ -78,15 +78,14 @@ impl Nodes {
     fn outermost(&self, bucket: usize, is_first: bool) -> Option<u32> {
         let mut found = None;
         let mut best = (0, 0);
-        for place in 0..self.count(bucket) {
-            let number = self.member(bucket, place);
-            let Some(node) = self.nodes.get(number as usize) else {
+        for number in self.numbers(bucket) {
+            let Some(node) = self.nodes.get(*number as usize) else {
                 continue;
             };
             let is_better = found.is_none() || (node.rank() < best) == is_first;
             if !node.is_extended && is_better {
                 best = node.rank();
-                found = Some(number);
+                found = Some(*number);
             }
         }
         found

@@ -140,6 +140,16 @@ impl Nodes {
         }
     }
 
+    /// The numbers of a bucket's nodes.
+    pub(crate) fn numbers(&self, bucket: usize) -> &[u32] {
+        let begin = bucket.saturating_mul(WIDEST);
+        let end = begin.saturating_add(self.count(bucket) as usize);
+        match self.members.as_slice().get(begin..end) {
+            Some(numbers) => numbers,
+            None => &[],
+        }
+    }
+
     /// The number of a bucket's node.
     pub(crate) fn member(&self, bucket: usize, place: u32) -> u32 {
         let member = bucket.saturating_mul(WIDEST).saturating_add(place as usize);

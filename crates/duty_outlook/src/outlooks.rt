@@ -3,7 +3,7 @@ ghost use Rattle.std.specs.Prelude.{◌≡◌, ℕ, ◌*◌, ◌<◌, ◌≤◌,
 ghost use Rattle.week_book.specs.declared.weeks.Week.{Week};
 ghost use Rattle.duty_plan.specs.declared.pricing.Prices.{Prices};
 
-use crate::layouts::Layout;
+use crate::layouts::{Layout, RING};
 use crate::spots::{Entry, Spot};
 
 /// The number that stands for no cents.
@@ -99,13 +99,22 @@ impl Outlook {
         }
     }
 
+    /// Where the entry for a spot lies once the outlook is filled: of later minutes none but those that are kept are left.
+    fn last_slot(&self, spot: Spot) -> usize {
+        if spot.minute < RING {
+            self.slot(spot)
+        } else {
+            self.kept_slot(spot)
+        }
+    }
+
     /// A number for the spot at a level of load.
     pub(crate) fn number_at(&self, spot: Spot, level: usize) -> u64
         requires { level < 32 }
         ensures { (week : Week) (prices : Prices) → IsFilled week prices self.now →
             Covers week self.now.scale.capacity prices spot.orders spot.place spot.minute (level * self.now.scale.unit) (cents_of result) }
     {
-        let Some(entry) = self.entries.get(self.slot(spot)) else {
+        let Some(entry) = self.entries.get(self.last_slot(spot)) else {
             return LIMIT;
         };
         if !entry.spot.is_within(spot) {
