@@ -1,0 +1,7 @@
+//! The office's tables in a database of `sqlite`. A Monday is kept by its day number, a history by its text.
+#![tactic(auto)]
+
+mod causes;
+mod values;
+
+pub use causes::Cause;
