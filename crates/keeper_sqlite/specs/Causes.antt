@@ -1,4 +1,6 @@
 -- Which causes are faults of the store.
+use Rattle.std.specs.Prelude.{ℕ}
+use Rattle.desk_io.specs.Device.{counted_up}
 use Rattle.sqlite.specs.declared.error.Error.{Error}
 use Rattle.sqlite.specs.declared.error.Error.TheVariants.{SqliteFailure}
 use Rattle.sqlite.specs.declared.error.ErrorCode.TheVariants.{OutOfMemory}
@@ -17,3 +19,9 @@ abbrev pub error_of : Cause → KeeperError
 error_of Refused = Fault
 error_of Unreadable = Fault
 error_of WantOfMemory = NoMemory
+
+-- the count of faults after an answer for that cause
+abbrev pub faults_after : ℕ → Cause → ℕ
+faults_after faults Refused = counted_up faults
+faults_after faults Unreadable = counted_up faults
+faults_after faults WantOfMemory = faults

@@ -2,6 +2,11 @@
 #![tactic(auto)]
 
 mod causes;
+mod drafts;
+mod histories;
+mod issues;
+mod keeper;
 mod values;
 
 pub use causes::Cause;
+pub use keeper::SqliteKeeper;

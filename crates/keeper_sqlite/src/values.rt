@@ -80,7 +80,12 @@ pub(crate) fn kept_at(alloc: Global, row: &Row, day: usize, past: usize) -> Resu
 }
 
 /// The kept history of two columns, or none where both are NULL.
-pub(crate) fn seen_at(alloc: Global, row: &Row, day: usize, past: usize) -> Result<Option<Kept>, Cause> {
+pub(crate) fn seen_at(
+    alloc: Global,
+    row: &Row,
+    day: usize,
+    past: usize,
+) -> Result<Option<Kept>, Cause> {
     match (row.get_ref(day)?, row.get_ref(past)?) {
         (ValueRef::Null, ValueRef::Null) => Ok(None),
         _ => Ok(Some(kept_at(alloc, row, day, past)?)),

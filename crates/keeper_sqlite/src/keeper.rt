@@ -1,0 +1,79 @@
+// The keeper over a database. It tells no tables, and counts its faults.
+ghost use Rattle.std.specs.Prelude.{◌≡◌, ◌≤◌, false};
+ghost use Rattle.desk_io.specs.Device.{counted_up};
+ghost use Rattle.keeper_sqlite.specs.Causes.{error_of, faults_after};
+
+use crate::causes::Cause;
+use crate::drafts::{draft_of, put_draft};
+use crate::histories::history_of;
+use crate::issues::{issue_of, publish};
+use desk_keeper::{Draft, Issue, Keeper, KeeperError, Kept};
+use minute_line::{Monday, Name};
+use sqlite::{Alter, Connection};
+use std::alloc::Global;
+
+/// A keeper over a connection. Between its calls no transaction is open.
+#[derive(Drop)]
+pub struct SqliteKeeper<S: Alter> {
+    connection: Connection<S>,
+    faults: u64,
+    ghost idle: { connection.in_transaction ≡ false },
+}
+
+impl<S: Alter + Drop> SqliteKeeper<S> {
+    /// Counts a fault, where the cause is one. The error to answer.
+    fn note(&mut self, cause: Cause) -> KeeperError
+        ensures error { result ≡ error_of cause }
+        ensures counts { self.new.faults ≡ faults_after self.old.faults cause }
+        ensures counted { self.old.faults ≤ self.new.faults }
+    {
+        let error = cause.error();
+        if error == KeeperError::Fault {
+            self.faults = self.faults.saturating_add(1);
+        }
+        error
+    }
+}
+
+impl<S: Alter + Drop> Keeper for SqliteKeeper<S> {
+    ghost use Rattle.std.specs.Prelude.{None};
+
+    ghost tables = { λ _. None };
+
+    ghost faults = { λ k. k.faults };
+
+    fn history(&mut self, alloc: Global, driver: &Name) -> Result<Option<Kept>, KeeperError> {
+        match history_of(&mut self.connection, alloc, driver) {
+            Ok(found) => Ok(found),
+            Err(cause) => Err(self.note(cause)),
+        }
+    }
+
+    fn draft(&mut self, alloc: Global, monday: Monday) -> Result<Option<Draft>, KeeperError> {
+        match draft_of(&mut self.connection, alloc, monday) {
+            Ok(found) => Ok(found),
+            Err(cause) => Err(self.note(cause)),
+        }
+    }
+
+    fn published(&mut self, alloc: Global, monday: Monday) -> Result<Option<Issue>, KeeperError> {
+        match issue_of(&mut self.connection, alloc, monday) {
+            Ok(found) => Ok(found),
+            Err(cause) => Err(self.note(cause)),
+        }
+    }
+
+    fn put_draft(&mut self, alloc: Global, draft: &Draft) -> Result<(), KeeperError> {
+        match put_draft(&mut self.connection, alloc, draft) {
+            Ok(()) => Ok(()),
+            Err(cause) => Err(self.note(cause)),
+        }
+    }
+
+    fn publish(&mut self, alloc: Global, draft: &Draft) -> Result<u64, KeeperError> {
+        match publish(&mut self.connection, alloc, draft) {
+            Ok(receipt) => Ok(receipt),
+            Err(cause) => Err(self.note(cause)),
+        }
+    }
+}
