@@ -21,6 +21,17 @@ pub struct SqliteKeeper<S: Alter> {
 }
 
 impl<S: Alter + Drop> SqliteKeeper<S> {
+    /// A keeper that has counted no fault.
+    pub(crate) fn over(connection: Connection<S>) -> SqliteKeeper<S>
+        requires idle { connection.in_transaction ≡ false }
+        ensures faults { result.faults ≡ 0 }
+    {
+        SqliteKeeper {
+            connection,
+            faults: 0,
+        }
+    }
+
     /// Counts a fault, where the cause is one. The error to answer.
     fn note(&mut self, cause: Cause) -> KeeperError
         ensures error { result ≡ error_of cause }

@@ -3,10 +3,16 @@
 
 mod causes;
 mod drafts;
+mod errors;
 mod histories;
 mod issues;
 mod keeper;
+mod moving;
+mod opening;
+mod schema;
 mod values;
 
 pub use causes::Cause;
+pub use errors::OpenError;
 pub use keeper::SqliteKeeper;
+pub use opening::open_store;

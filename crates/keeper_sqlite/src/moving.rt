@@ -1,0 +1,100 @@
+// Histories' texts from before they told what is owed, moved on to the texts of today.
+ghost use Rattle.std.specs.Prelude.{◌≡◌, IfOk};
+ghost use Rattle.minute_line.specs.Histories.{fields_of};
+ghost use Rattle.minute_line.specs.Spelling.{older_spelling};
+ghost use Rattle.minute_line.specs.declared.lines.History.{History as AHistory};
+ghost use Rattle.keeper_sqlite.specs.Moves.{MovesTo, IsMoved};
+
+use crate::errors::OpenError;
+use crate::values::{number_at, text_at};
+use minute_line::{Bytes, TextError, history_text, upgrade};
+use sqlite::types::ValueRef;
+use sqlite::{Alter, Row, Transaction};
+use std::alloc::Global;
+
+/// The text of today of a history whose older text is given, with the debt that its last weekly rest leaves. `Text` only
+/// where the text is no history's older text.
+pub(crate) fn moved_text(alloc: Global, text: &[u8]) -> Result<Bytes, OpenError>
+    ensures moved { IfOk result (IsMoved text.now) }
+    ensures back { (history : AHistory) → text.now ≡ older_spelling (fields_of history) → MovesTo history result }
+{
+    let history = match upgrade(alloc, text) {
+        Ok(history) => history,
+        Err(TextError::Bad) => return Err(OpenError::Text),
+        Err(TextError::Memory) => return Err(OpenError::Memory),
+    };
+    Ok(history_text(alloc, &history)?)
+}
+
+/// Moves the text of one row, by the statement that sets it.
+fn move_row<S: Alter>(
+    tx: &mut Transaction<'_, S>,
+    alloc: Global,
+    update: &str,
+    row: &Row,
+) -> Result<(), OpenError>
+    ensures same { tx.new.conn.ghost_name ≡ tx.old.conn.ghost_name }
+{
+    let place = number_at(row, 0)?;
+    let text = moved_text(alloc, text_at(row, 1)?)?;
+    tx.execute(
+        update,
+        &[ValueRef::Int(place), ValueRef::Text(text.as_slice())],
+    )?;
+    Ok(())
+}
+
+/// Moves the texts of these rows, by the statement that sets one.
+fn move_rows<S: Alter>(
+    tx: &mut Transaction<'_, S>,
+    alloc: Global,
+    update: &str,
+    rows: &[Row],
+) -> Result<(), OpenError>
+    ensures same { tx.new.conn.ghost_name ≡ tx.old.conn.ghost_name }
+{
+    for row in rows {
+        move_row(tx, alloc, update, row)?;
+    }
+    Ok(())
+}
+
+/// Moves the texts of one column, by the statements that tell and set them by row.
+fn move_column<S: Alter>(
+    tx: &mut Transaction<'_, S>,
+    alloc: Global,
+    select: &str,
+    update: &str,
+) -> Result<(), OpenError>
+    ensures same { tx.new.conn.ghost_name ≡ tx.old.conn.ghost_name }
+{
+    let rows = tx.query_all(select, &[])?;
+    move_rows(tx, alloc, update, rows.as_slice())
+}
+
+/// Moves every history's text of a store.
+pub(crate) fn move_texts<S: Alter>(
+    tx: &mut Transaction<'_, S>,
+    alloc: Global,
+) -> Result<(), OpenError>
+    ensures same { tx.new.conn.ghost_name ≡ tx.old.conn.ghost_name }
+{
+    move_column(
+        tx,
+        alloc,
+        "SELECT rowid, past FROM histories",
+        "UPDATE histories SET past = ?2 WHERE rowid = ?1",
+    )?;
+    move_column(
+        tx,
+        alloc,
+        "SELECT rowid, seen_past FROM draft_drivers WHERE seen_past IS NOT NULL",
+        "UPDATE draft_drivers SET seen_past = ?2 WHERE rowid = ?1",
+    )?;
+    move_column(
+        tx,
+        alloc,
+        "SELECT rowid, next_past FROM draft_drivers",
+        "UPDATE draft_drivers SET next_past = ?2 WHERE rowid = ?1",
+    )
+}
