@@ -32,6 +32,13 @@ impl<S: Alter + Drop> SqliteKeeper<S> {
         }
     }
 
+    /// How many of its calls failed by a fault, up to the last value.
+    pub fn faults(&self) -> u64
+        ensures { result ≡ self.now.faults }
+    {
+        self.faults
+    }
+
     /// Counts a fault, where the cause is one. The error to answer.
     fn note(&mut self, cause: Cause) -> KeeperError
         ensures error { result ≡ error_of cause }

@@ -10,6 +10,8 @@ mod keeper;
 mod moving;
 mod opening;
 mod schema;
+#[cfg(test)]
+mod tests;
 mod values;
 
 pub use causes::Cause;

@@ -1,5 +1,5 @@
 // A store taken over: its tables are made where they are missing, and older texts are moved.
-ghost use Rattle.std.specs.Prelude.{◌≡◌, false};
+ghost use Rattle.std.specs.Prelude.{◌≡◌, false, IfOk};
 
 use crate::causes::Cause;
 use crate::errors::OpenError;
@@ -59,7 +59,9 @@ fn prepare_store<S: Alter>(connection: &mut Connection<S>, alloc: Global) -> Res
 pub fn open_store<S: Alter + Drop>(
     alloc: Global,
     mut connection: Connection<S>,
-) -> Result<SqliteKeeper<S>, OpenError> {
+) -> Result<SqliteKeeper<S>, OpenError>
+    ensures none { IfOk result (λ keeper. keeper.faults ≡ 0) }
+{
     if !connection.is_autocommit() {
         return Err(OpenError::Fault);
     }
