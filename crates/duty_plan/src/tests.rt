@@ -44,14 +44,6 @@ fn legs(alloc: Global) -> Result<Many<Leg>, Memory>
     Ok(legs)
 }
 
-/// No legs.
-pub(crate) fn no_legs(alloc: Global) -> Many<Leg>
-    ensures { (length result ≡ 0) × All (IsLeg 2) result × IsDistinct same_ends result }
-{
-    let none = Many::new(alloc);
-    none
-}
-
 /// One driver with a lorry of 24,000 kg.
 pub(crate) fn drivers(alloc: Global) -> Result<Many<Driver>, Memory>
     ensures { IfOk result (λ drivers. (length drivers ≡ 1) × All IsDriver drivers
@@ -82,14 +74,6 @@ pub(crate) fn orders(alloc: Global) -> Result<Many<Order>, Memory>
         price: 9000,
     })?;
     Ok(orders)
-}
-
-/// No orders.
-pub(crate) fn no_orders(alloc: Global) -> Many<Order>
-    ensures { (length result ≡ 0) × All (IsOrder 2) result × AreNames (map (λ order. order.name) result) }
-{
-    let none = Many::new(alloc);
-    none
 }
 
 /// The week with these orders, and a history that ends in an open off run of two days.
