@@ -1,1 +1,2 @@
 pub mod LawfulGuesses
+pub mod Parts

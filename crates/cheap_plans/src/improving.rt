@@ -11,15 +11,19 @@ use crate::drafts::{Draft, copied_duties, no_duties};
 use crate::draws::{Draws, some_freed, used};
 use crate::guessing::Tries;
 use crate::incumbents::{Incumbent, offer_duties, offer_picked};
+use crate::starting::part_of_prices;
 use crate::turning::again;
 use duty_plan::{Case, Pricer, Prices};
 use minute_line::Memory;
-use price_master::{empty_pool, start_prices};
+use price_master::empty_pool;
 use std::alloc::Global;
 
-/// How many drivers are priced before the passes, and again in them, where drivers who are alike count as one. It is some ten
-/// seconds each on one processor. The last guess may go past it, by fewer than a week's drivers.
+/// How many drivers are priced before the passes, where drivers who are alike count as one: some ten seconds on one processor.
+/// The last guess may go past it, by fewer than a week's drivers.
 const MOST_PRICINGS: u32 = 256;
+
+/// The same in the passes.
+const MOST_IN_PASSES: u32 = 96;
 
 /// More passes than their pricings suffice for, unless nothing is guessed.
 const MOST_PASSES: u32 = 64;
@@ -27,8 +31,19 @@ const MOST_PASSES: u32 = 64;
 /// The first state of the draws of passes.
 const SEED: u64 = 1;
 
-/// The rounds before the first driver is fixed. With fewer the prices are still far from where they settle.
+/// The rounds before the first driver is fixed in the dive from what subcontractors take. With fewer the prices are still far
+/// from where they settle.
 const FIRST: Rounds = Rounds { count: 40, from: 0 };
+
+/// The same in the dive from a part of it.
+const SECOND: Rounds = Rounds { count: 24, from: 0 };
+
+/// All of what subcontractors take, in percent.
+const ALL: u64 = 100;
+
+/// The part of it, in percent, from which the second dive begins. On a usual week the first dive misses the best plan known by
+/// up to a twentieth, as luck has it; both together came to it, from any part of 25 to 40 (docs/PLANS.md).
+const PART: u64 = 33;
 
 /// The rounds before each later driver is fixed: prices move less than in a first round.
 const LATER: Rounds = Rounds { count: 8, from: 4 };
@@ -58,17 +73,22 @@ fn offer_again<P: Pricer>(
     offer_duties(alloc, case, incumbent, draft.duties.as_slice())
 }
 
-/// Fixes a first driver and dives with the others, and offers the plan that this comes to, the same with the drivers priced
-/// again in turn, and what is picked from all duties that were guessed. It gives the prices at which the first driver was
-/// fixed, or the first prices.
+/// Fixes a first driver after rounds from a part, in percent, of what subcontractors take, and dives with the others. It offers
+/// the plan that this comes to, the same with the drivers priced again in turn, and what is picked from all duties that were
+/// guessed, and gives the prices at which the first driver was fixed, or the first prices.
 fn offer_dive<P: Pricer>(
     alloc: Global,
     case: &Case,
     pricer: &mut P,
     tries: &mut Tries,
     incumbent: &mut Incumbent,
+    percent: u64,
+    rounds: Rounds,
 ) -> Result<Prices, Memory>
     requires case { IsCase case.now }
+    requires part { percent ≤ 100 }
+    requires some { 0 < rounds.count }
+    requires few { (rounds.count ≤ 1000) × (rounds.from ≤ 1000) }
     requires pool { IsPool case.now tries.old.pool }
     requires lawful { IsPlanAtCost case.now incumbent.old.plan incumbent.old.cost }
     ensures prices { IfOk result (IsPrices case.now.week) }
@@ -77,12 +97,12 @@ fn offer_dive<P: Pricer>(
     ensures falls { incumbent.new.cost ≤ incumbent.old.cost }
     ensures chunks { P.chunks pricer.new ≡ P.chunks pricer.old }
 {
-    let start = start_prices(alloc, &case.week)?;
+    let start = part_of_prices(alloc, &case.week, percent)?;
     if tries.left == 0 {
         return Ok(start);
     }
     let mut draft = no_duties(alloc, case)?;
-    let Some(prices) = fix_first(alloc, case, pricer, tries, &mut draft, &start, FIRST)? else {
+    let Some(prices) = fix_first(alloc, case, pricer, tries, &mut draft, &start, rounds)? else {
         return Ok(start);
     };
     dive(alloc, case, pricer, tries, &mut draft, &prices, LATER)?;
@@ -186,12 +206,13 @@ pub fn improve<P: Pricer>(
     };
     let mut none = no_duties(alloc, case)?;
     offer_again(alloc, case, pricer, &mut tries, &mut better, &mut none)?;
-    let prices = offer_dive(alloc, case, pricer, &mut tries, &mut better)?;
+    offer_dive(alloc, case, pricer, &mut tries, &mut better, ALL, FIRST)?;
+    let prices = offer_dive(alloc, case, pricer, &mut tries, &mut better, PART, SECOND)?;
     offer_kept(alloc, case, pricer, &mut tries, &mut better)?;
     if used(better.plan.duties.as_slice()) < 2 {
         return Ok(better);
     }
-    tries.left = MOST_PRICINGS;
+    tries.left = MOST_IN_PASSES;
     offer_passes(alloc, case, pricer, &mut tries, &mut better, &prices)?;
     Ok(better)
 }

@@ -8,6 +8,7 @@ mod draws;
 mod guessing;
 mod improving;
 mod incumbents;
+mod starting;
 mod turning;
 mod valuing;
 
