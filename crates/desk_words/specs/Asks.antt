@@ -15,10 +15,11 @@ use Rattle.desk_words.specs.Words.{desk_app, is_command}
 abbrev pub has_budget : Values → Bool
 has_budget values = is_some values.labels || (is_some values.nodes || is_some values.rounds)
 
--- what only a publication takes, and what only a server takes, is given
+-- what says which draft is meant is given
 abbrev pub has_draft : Values → Bool
 has_draft values = is_some values.monday || is_some values.rev
 
+-- what only a server takes is given
 abbrev pub has_server : Values → Bool
 has_server values = is_some values.port || is_some values.count
 
@@ -47,10 +48,11 @@ publish_of values =
 abbrev pub only_monday : Values → Option Monday
 only_monday values = if has_budget values || (is_some values.seed || (is_some values.rev || has_server values)) then None else values.monday
 
--- a report or an export is asked for by a Monday alone
+-- a report is asked for by a Monday alone
 abbrev pub show_of : Values → Option Ask
 show_of values = option_map (λ monday. Show monday) (only_monday values)
 
+-- an export is asked for by a Monday alone
 abbrev pub export_of : Values → Option Ask
 export_of values = option_map (λ monday. Export monday) (only_monday values)
 

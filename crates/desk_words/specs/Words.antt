@@ -13,6 +13,7 @@ action_rule = record (new_rule (codes "action")) { required = true }
 abbrev pub option_rule : Text → Rule
 option_rule name = record (new_rule name) { long = Some name }
 
+-- a command without words, which knows neither help nor version
 abbrev pub bare_app : App
 bare_app = on_top (λ s. record s { no_binary_name = true; disable_help_flag = true; disable_version_flag = true }) (new_app (codes "desk"))
 
