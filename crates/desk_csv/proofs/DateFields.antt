@@ -38,7 +38,7 @@ same_monday day a b p q =
     λ i. Some (record { day = day; day_in = between_prop (pos 10957) (pos 47485) day a b i; is_monday = ℕ_set _ _ p q i })
 
 -- a Monday is the one of its day number
-monday_again : (m : Monday) → monday_of m.day ≡ Some m
+pub monday_again : (m : Monday) → monday_of m.day ≡ Some m
 unfolding monday_of
 monday_again m =
     where_true-some _ _ m (true_of _ m.day_in.0.le) (
@@ -49,7 +49,7 @@ some_same : {A : Type 0} (x y : A) → ◌≡◌ {A = Option A} (Some x) (Some y
 some_same x y h = cc h
 
 -- the Monday of a day number has that number
-monday_day : (day : ℤ) (m : Monday) → monday_of day ≡ Some m → m.day ≡ day
+pub monday_day : (day : ℤ) (m : Monday) → monday_of day ≡ Some m → m.day ≡ day
 unfolding monday_of
 monday_day day m h =
     let low = where_true-given _ _ m h in
