@@ -1,3 +1,9 @@
 pub mod Stopping
 pub mod Gathering
 pub mod Verdicts
+pub mod Replying
+pub mod Seeing
+pub mod Publications
+pub mod Histories
+pub mod Afterwards
+pub mod LastMonday

@@ -5,7 +5,7 @@ use Rattle.week_book.specs.declared.rows.Row.{Row}
 use Rattle.week_book.specs.declared.weeks.Driver.{Driver}
 use Rattle.desk_core.specs.declared.refusals.Refusal.{Refusal}
 use Rattle.desk_core.specs.declared.refusals.Stop.{Stop}
-use Rattle.desk_core.specs.declared.refusals.Stop.TheVariants.{Refused, Memory}
+use Rattle.desk_core.specs.declared.refusals.Stop.TheVariants.{Refused, Fault, Memory}
 use Rattle.desk_core.specs.Refusing.{Meets, ◌>>=◌}
 use Rattle.desk_core.specs.Planning.{Gathered, nobody, with_driver, past_or_refusal, pasts_said}
 use Rattle.desk_core.specs.Checking.{driver_said, drivers_said}
@@ -14,6 +14,7 @@ use Rattle.desk_core.specs.Checking.{driver_said, drivers_said}
 pub meets-stop : {A B C D : Type 0} (view : A → B) (other : C → D) (stop : Stop) (said : Result B Refusal) (whole : Result D Refusal)
     → ((refusal : Refusal) → said ≡ Err refusal → whole ≡ Err refusal) → Meets view (Err stop) said → Meets other (Err stop) whole
 meets-stop view other (Refused refusal) said whole more h = more refusal h
+meets-stop view other Fault said whole more h = h
 meets-stop view other Memory said whole more h = tt
 
 -- what a `?` hands on is what stopped
@@ -23,13 +24,13 @@ handed-on other (Ok value) stop whole h meets = absurd (cc h.0)
 handed-on other (Err e) stop whole h meets = rw h.1 meets
 
 -- what is left at a place is the element there and what is left after it
-left-at : {X : Type 0} (xs : List X) (i : ℕ) (x d : X) → i < length xs → x ≡ get_or xs i d → drop i xs ≡ x ∷ drop (i + 1) xs
+pub left-at : {X : Type 0} (xs : List X) (i : ℕ) (x d : X) → i < length xs → x ≡ get_or xs i d → drop i xs ≡ x ∷ drop (i + 1) xs
 left-at xs i x d l e = rw (add-one, e) (drop-cons xs i d l)
 
-then-stop : {A B : Type 0} (said : Result A Refusal) (next : A → Result B Refusal) (refusal : Refusal) → said ≡ Err refusal → (said >>= next) ≡ Err refusal
+pub then-stop : {A B : Type 0} (said : Result A Refusal) (next : A → Result B Refusal) (refusal : Refusal) → said ≡ Err refusal → (said >>= next) ≡ Err refusal
 then-stop said next refusal e = rw e refl
 
-then-on : {A B : Type 0} (said : Result A Refusal) (next : A → Result B Refusal) (x : A) → said ≡ Ok x → (said >>= next) ≡ next x
+pub then-on : {A B : Type 0} (said : Result A Refusal) (next : A → Result B Refusal) (x : A) → said ≡ Ok x → (said >>= next) ≡ next x
 then-on said next x e = rw e refl
 
 -- a driver whose rows are refused

@@ -8,7 +8,7 @@ use Rattle.duty_plan.specs.Trees.{IsRight}
 use Rattle.desk_report.specs.Reports.{IsBodyOf}
 use Rattle.desk_core.specs.declared.refusals.Refusal.{Refusal}
 use Rattle.desk_core.specs.declared.refusals.Stop.{Stop}
-use Rattle.desk_core.specs.declared.refusals.Stop.TheVariants.{Refused, Memory}
+use Rattle.desk_core.specs.declared.refusals.Stop.TheVariants.{Refused, Fault, Memory}
 use Rattle.minute_line.specs.Histories.{fields_of}
 use Rattle.desk_core.specs.declared.planning.Pasts.{Pasts}
 use Rattle.desk_core.specs.Planning.{Book, Gathered}
@@ -35,4 +35,5 @@ pub record IsReportOfRight (limits : Limits) (said : Book) (text : List ℕ) : T
 abbrev pub Reports : Limits → Result (List ℕ) Stop → Result Book Refusal → Type 0
 Reports limits (Ok text) said = (of : Book) × (said ≡ Ok of) × IsReportOfRight limits of text
 Reports limits (Err (Refused refusal)) said = said ≡ Err refusal
+Reports limits (Err Fault) said = ⊥
 Reports limits (Err Memory) said = ⊤

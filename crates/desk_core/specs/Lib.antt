@@ -5,3 +5,8 @@ pub mod Planning
 pub mod Books
 pub mod Checking
 pub mod Laws
+pub mod Replies
+pub mod Issuing
+pub mod Drafting
+pub mod WeekTexts
+pub mod Machine

@@ -1,7 +1,8 @@
--- The line that says why a text is refused.
-use Rattle.std.specs.Prelude.{ℕ, List, [], ◌∷◌, codes}
+-- The line that says why a command is refused.
+use Rattle.std.specs.Prelude.{◌≡◌, ℕ, ℤ, Option, Some, None, IfSome, List, [], ◌∷◌, codes}
 use Rattle.std.specs.Fmt.{decimal}
 use Rattle.minute_line.specs.Writing.{with_line}
+use Rattle.minute_line.specs.DateWriting.{IsDayText}
 use Rattle.desk_csv.specs.declared.errors.CsvError.{CsvError}
 use Rattle.desk_csv.specs.declared.errors.CsvError.TheVariants as csv
 use Rattle.week_book.specs.declared.errors.What.{What}
@@ -13,7 +14,7 @@ use Rattle.driver_history.specs.declared.errors.HistoryError.TheVariants as past
 use Rattle.driver_history.specs.declared.errors.LineError.{LineError}
 use Rattle.driver_history.specs.declared.errors.LineError.TheVariants as line
 use Rattle.desk_core.specs.declared.refusals.Refusal.{Refusal}
-use Rattle.desk_core.specs.declared.refusals.Refusal.TheVariants.{Long, Csv, Week, Past, Line, NoHistory}
+use Rattle.desk_core.specs.declared.refusals.Refusal.TheVariants.{Long, Csv, Week, Past, Line, Published, NoDraft, Stale, Moved, Kept, Later, NoHistory, DraftsFull}
 
 -- a line's words, each as its bytes
 abbrev pub Words : Type 0
@@ -60,15 +61,31 @@ line_words (line.TwoOffs row) = codes "off" ∷ decimal row ∷ []
 line_words (line.TooLong minutes) = codes "long" ∷ decimal minutes ∷ []
 line_words line.Memory = []
 
--- why a text is refused
-abbrev pub refusal_words : Refusal → Words
-refusal_words Long = codes "long" ∷ []
-refusal_words (Csv error) = csv_words error
-refusal_words (Week error) = week_words error
-refusal_words (Past name error) = codes "past" ∷ name ∷ past_words error
-refusal_words (Line name error) = codes "line" ∷ name ∷ line_words error
-refusal_words (NoHistory name) = codes "history" ∷ name ∷ []
+-- the Monday that a refusal names, if it names one
+abbrev pub named_monday : Refusal → Option ℤ
+named_monday (Published monday receipt) = Some monday.day
+named_monday (NoDraft monday) = Some monday.day
+named_monday (Later name monday) = Some monday.day
+named_monday (DraftsFull monday) = Some monday.day
+named_monday _ = None
 
--- the line of a refusal
-abbrev pub refusal_text : Refusal → List ℕ
-refusal_text refusal = with_line [] (codes "refused") (refusal_words refusal)
+-- why a command is refused, with the text of the Monday that is named
+abbrev pub refusal_words : List ℕ → Refusal → Words
+refusal_words day Long = codes "long" ∷ []
+refusal_words day (Csv error) = csv_words error
+refusal_words day (Week error) = week_words error
+refusal_words day (Past name error) = codes "past" ∷ name ∷ past_words error
+refusal_words day (Line name error) = codes "line" ∷ name ∷ line_words error
+refusal_words day (Published monday receipt) = codes "published" ∷ day ∷ codes "receipt" ∷ decimal receipt ∷ []
+refusal_words day (NoDraft monday) = codes "draft" ∷ day ∷ []
+refusal_words day (Stale named now) = codes "stale" ∷ decimal named ∷ decimal now ∷ []
+refusal_words day (Moved name) = codes "moved" ∷ name ∷ []
+refusal_words day (Kept name) = codes "kept" ∷ name ∷ []
+refusal_words day (Later name monday) = codes "later" ∷ name ∷ day ∷ []
+refusal_words day (NoHistory name) = codes "history" ∷ name ∷ []
+refusal_words day (DraftsFull monday) = codes "full" ∷ day ∷ []
+
+-- the text is the line of a refusal; the Monday that it names, if any, stands there as YYYY-MM-DD
+abbrev pub IsRefusalText : Refusal → List ℕ → Type 0
+IsRefusalText refusal text = (day : List ℕ) × IfSome (named_monday refusal) (λ monday. IsDayText monday day)
+    × (text ≡ with_line [] (codes "refused") (refusal_words day refusal))

@@ -6,12 +6,13 @@ use Rattle.week_book.specs.declared.rows.Row.{Row}
 use Rattle.desk_core.specs.declared.refusals.Refusal.{Refusal}
 use Rattle.desk_core.specs.declared.refusals.Refusal.TheVariants as because
 use Rattle.desk_core.specs.declared.refusals.Stop.{Stop}
-use Rattle.desk_core.specs.declared.refusals.Stop.TheVariants.{Refused, Memory}
+use Rattle.desk_core.specs.declared.refusals.Stop.TheVariants.{Refused, Fault, Memory}
 
 -- a command came to this value or to this refusal, as said, unless memory was wanted
 abbrev pub Meets : {A B : Type 0} → (A → B) → Result A Stop → Result B Refusal → Type 0
 Meets view (Ok value) said = said ≡ Ok (view value)
 Meets view (Err (Refused refusal)) said = said ≡ Err refusal
+Meets view (Err Fault) said = ⊥
 Meets view (Err Memory) said = ⊤
 
 infixl 10 ◌>>=◌

@@ -8,9 +8,16 @@ use Rattle.driver_history.specs.declared.errors.HistoryError.{HistoryError}
 use Rattle.driver_history.specs.declared.errors.HistoryError.TheVariants as past
 use Rattle.driver_history.specs.declared.errors.LineError.{LineError}
 use Rattle.driver_history.specs.declared.errors.LineError.TheVariants as line
+use Rattle.desk_keeper.specs.declared.keeper.KeeperError.{KeeperError}
+use Rattle.desk_keeper.specs.declared.keeper.KeeperError.TheVariants as keeper
 use Rattle.desk_core.specs.declared.refusals.Refusal.TheVariants as because
 use Rattle.desk_core.specs.declared.refusals.Stop.{Stop}
-use Rattle.desk_core.specs.declared.refusals.Stop.TheVariants.{Refused, Memory}
+use Rattle.desk_core.specs.declared.refusals.Stop.TheVariants.{Refused, Fault, Memory}
+
+-- the keeper failed, unless memory was wanted
+abbrev pub keeper_stop : KeeperError → Stop
+keeper_stop keeper.Fault = Fault
+keeper_stop keeper.Memory = Memory
 
 -- a text without rows is refused, unless memory was wanted
 abbrev pub csv_stop : CsvError → Stop

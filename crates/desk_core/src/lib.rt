@@ -1,13 +1,20 @@
 //! What the desk answers to a text: the week that it plans for, or the verdicts on what was driven, or its refusal.
 #![tactic(auto)]
 
+mod asking;
 mod checking;
+mod commands;
+mod drafting;
+mod drafts;
 mod laws;
 mod lines;
 mod planning;
+mod publishing;
 mod refusals;
+mod showing;
 
 pub use checking::check_text;
+pub use commands::{Command, Reply};
 pub use laws::{
     each_has_its_history, first_refused_is_told, first_without_is_named, lines_are_verdicts,
 };

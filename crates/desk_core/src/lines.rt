@@ -1,13 +1,14 @@
-// The line that says why a text is refused, word by word.
-ghost use Rattle.std.specs.Prelude.{◌≡◌, ◌∷◌, [], IfOk, OnOk, codes};
+// The line that says why a command is refused, word by word.
+ghost use Rattle.std.specs.Prelude.{◌≡◌, ◌∷◌, [], IfOk, OnOk, IfSome, option_map, codes};
 ghost use Rattle.std.specs.Fmt.{decimal};
+ghost use Rattle.minute_line.specs.DateWriting.{IsDayText};
 ghost use Rattle.minute_line.specs.Writing.{with_words};
-ghost use Rattle.desk_core.specs.Lines.{csv_words, what_word, week_words, past_words, line_words, refusal_words, refusal_text};
+ghost use Rattle.desk_core.specs.Lines.{csv_words, what_word, week_words, past_words, line_words, named_monday, refusal_words, IsRefusalText};
 
 use crate::refusals::Refusal;
 use desk_csv::CsvError;
 use driver_history::{HistoryError, LineError};
-use minute_line::{Bytes, Memory, push_number, push_word};
+use minute_line::{Bytes, Memory, Monday, monday_text, push_number, push_word};
 use std::alloc::Global;
 use week_book::{WeekError, What};
 
@@ -94,8 +95,60 @@ fn push_driver(text: &mut Bytes, word: &[u8], name: &[u8]) -> Result<(), Memory>
     push_word(text, name)
 }
 
-fn push_refusal(text: &mut Bytes, refusal: &Refusal) -> Result<(), Memory>
-    ensures { OnOk result (text.new ≡ with_words text.old (refusal_words refusal.now)) }
+fn push_dated(text: &mut Bytes, word: &[u8], day: &[u8]) -> Result<(), Memory>
+    ensures { OnOk result (text.new ≡ with_words text.old (word.now ∷ day.now ∷ [])) }
+{
+    push_word(text, word)?;
+    push_word(text, day)
+}
+
+fn push_issue(text: &mut Bytes, day: &[u8], receipt: u64) -> Result<(), Memory>
+    ensures { OnOk result (text.new ≡ with_words text.old (codes "published" ∷ day.now ∷ codes "receipt" ∷ decimal receipt ∷ [])) }
+{
+    push_dated(text, b"published", day)?;
+    push_one(text, b"receipt", receipt)
+}
+
+fn push_later(text: &mut Bytes, name: &[u8], day: &[u8]) -> Result<(), Memory>
+    ensures { OnOk result (text.new ≡ with_words text.old (codes "later" ∷ name.now ∷ day.now ∷ [])) }
+{
+    push_driver(text, b"later", name)?;
+    push_word(text, day)
+}
+
+/// The Monday that a refusal names, if it names one.
+fn named_monday(refusal: &Refusal) -> Option<Monday>
+    ensures { option_map (λ monday. monday.day) result ≡ named_monday refusal.now }
+{
+    match refusal {
+        Refusal::Published(monday, _)
+        | Refusal::NoDraft(monday)
+        | Refusal::Later(_, monday)
+        | Refusal::DraftsFull(monday) => Some(*monday),
+        Refusal::Long
+        | Refusal::Csv(_)
+        | Refusal::Week(_)
+        | Refusal::Past(_, _)
+        | Refusal::Line(_, _)
+        | Refusal::Stale(_, _)
+        | Refusal::Moved(_)
+        | Refusal::Kept(_)
+        | Refusal::NoHistory(_) => None,
+    }
+}
+
+/// The text of the Monday that a refusal names; any text where it names none.
+fn day_of(refusal: &Refusal) -> [u8; 10]
+    ensures { IfSome (named_monday refusal.now) (λ monday. IsDayText monday result) }
+{
+    match named_monday(refusal) {
+        Some(monday) => monday_text(monday),
+        None => [0; 10],
+    }
+}
+
+fn push_refusal(text: &mut Bytes, day: &[u8], refusal: &Refusal) -> Result<(), Memory>
+    ensures { OnOk result (text.new ≡ with_words text.old (refusal_words day.now refusal.now)) }
 {
     match refusal {
         Refusal::Long => push_word(text, b"long"),
@@ -109,16 +162,24 @@ fn push_refusal(text: &mut Bytes, refusal: &Refusal) -> Result<(), Memory>
             push_driver(text, b"line", name.as_slice())?;
             push_line(text, *error)
         }
+        Refusal::Published(_, receipt) => push_issue(text, day, *receipt),
+        Refusal::NoDraft(_) => push_dated(text, b"draft", day),
+        Refusal::Stale(named, now) => push_two(text, b"stale", *named, *now),
+        Refusal::Moved(name) => push_driver(text, b"moved", name.as_slice()),
+        Refusal::Kept(name) => push_driver(text, b"kept", name.as_slice()),
+        Refusal::Later(name, _) => push_later(text, name.as_slice(), day),
         Refusal::NoHistory(name) => push_driver(text, b"history", name.as_slice()),
+        Refusal::DraftsFull(_) => push_dated(text, b"full", day),
     }
 }
 
 /// The line of a refusal, with its line feed: `refused`, its word, and where it is or what it found.
 pub fn refusal_line(alloc: Global, refusal: &Refusal) -> Result<Bytes, Memory>
-    ensures { IfOk result (λ text. text ≡ refusal_text refusal.now) }
+    ensures { IfOk result (IsRefusalText refusal.now) }
 {
+    let day = day_of(refusal);
     let mut text = Bytes::from_slice(alloc, b"refused")?;
-    push_refusal(&mut text, refusal)?;
+    push_refusal(&mut text, &day, refusal)?;
     text.push(b'\n')?;
     Ok(text)
 }

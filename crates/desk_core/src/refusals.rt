@@ -1,15 +1,16 @@
-// Why the desk refuses a text.
+// Why the desk refuses a command.
 ghost use Rattle.std.specs.Prelude.{◌≡◌};
 ghost use Rattle.desk_core.specs.declared.refusals.Stop.TheVariants.{Memory as WantOfMemory};
-ghost use Rattle.desk_core.specs.Stops.{csv_stop, week_stop, past_stop, line_stop};
+ghost use Rattle.desk_core.specs.Stops.{keeper_stop, csv_stop, week_stop, past_stop, line_stop};
 
 use desk_csv::CsvError;
+use desk_keeper::KeeperError;
 use driver_history::{HistoryError, LineError};
-use minute_line::{Memory, Name};
+use minute_line::{Memory, Monday, Name};
 use week_book::WeekError;
 
-/// Why a text is refused: the first cause, in the order in which they are written here. The errors inside are never
-/// want of memory.
+/// Why a command is refused: the first cause, in the order of the command's own steps. The errors inside are never want of
+/// memory.
 #[derive(Drop)]
 pub enum Refusal {
     /// The text has more than 1,048,576 bytes.
@@ -22,14 +23,30 @@ pub enum Refusal {
     Past(Name, HistoryError),
     /// The did rows of this driver make no line.
     Line(Name, LineError),
-    /// This driver of a week text has no history.
+    /// The week of this Monday is published, under this receipt.
+    Published(Monday, u64),
+    /// The week of this Monday has no draft.
+    NoDraft(Monday),
+    /// The draft that stands is not of the revision that is named, which comes first, but of another.
+    Stale(u64, u64),
+    /// What is kept of this driver is not what was kept as the draft was made.
+    Moved(Name),
+    /// This driver of a week text has history rows, and a history is kept too.
+    Kept(Name),
+    /// The history that is kept of this driver leads up to that Monday, which is past the week's.
+    Later(Name, Monday),
+    /// This driver of a week text has no history rows, and none is kept.
     NoHistory(Name),
+    /// The week of this Monday has as many drafts as there may be.
+    DraftsFull(Monday),
 }
 
 /// Why a command came to no end.
 #[derive(Drop)]
 pub enum Stop {
     Refused(Refusal),
+    /// The keeper failed.
+    Fault,
     Memory,
 }
 
@@ -38,6 +55,17 @@ impl From<Memory> for Stop {
 
     fn from(_error: Memory) -> Stop {
         Stop::Memory
+    }
+}
+
+impl From<KeeperError> for Stop {
+    ghost from_gives = { λ e stop. stop ≡ keeper_stop e };
+
+    fn from(error: KeeperError) -> Stop {
+        match error {
+            KeeperError::Fault => Stop::Fault,
+            KeeperError::Memory => Stop::Memory,
+        }
     }
 }
 
