@@ -6,7 +6,7 @@ use Rattle.duty_plan.specs.declared.outcomes.Limits.{Limits}
 use Rattle.desk_csv.specs.declared.errors.Form.TheVariants as form
 use Rattle.branch_tree.proofs.Cover.{no_cheaper}
 use Rattle.desk_core.specs.declared.refusals.Refusal.{Refusal}
-use Rattle.desk_core.specs.declared.refusals.Refusal.TheVariants.{Long, Csv, Week as Weekly, Past, Line, NoHistory}
+use Rattle.desk_core.specs.declared.refusals.Refusal.TheVariants.{Long, Csv, Week as Weekly, Past, Line, Published, NoDraft, Stale, Moved, Kept, Later, NoHistory, DraftsFull}
 use Rattle.desk_core.specs.Books.{IsReportOfRight, book}
 use Rattle.desk_core.specs.Planning.{Book, case_said}
 use Rattle.desk_core.specs.Refusing.{refuse, rows_said}
@@ -15,7 +15,7 @@ use Rattle.desk_core.proofs.Gathering.{then_ok}
 use Rattle.desk_core.proofs.Verdicts.{lines_are_verdicts}
 use Rattle.desk.specs.declared.asks.Ask.{Ask}
 use Rattle.desk.specs.declared.asks.Ask.TheVariants.{Plan, Check}
-use Rattle.desk.specs.Saying.{Said, SaysPlan, SaysCheck, Says, status_of, refused}
+use Rattle.desk.specs.Saying.{Said, SaysPlan, SaysCheck, Says, status_of, IsRefused}
 use Rattle.desk.specs.Running.{SaysAsked, Runs, IsPlanned, IsChecked}
 use Rattle.desk.proofs.Budgets.{exact}
 
@@ -26,17 +26,24 @@ refusal-status (Csv e) = inl refl
 refusal-status (Weekly e) = inl refl
 refusal-status (Past name e) = inl refl
 refusal-status (Line name e) = inl refl
+refusal-status (Published monday receipt) = inr refl
+refusal-status (NoDraft monday) = inr refl
+refusal-status (Stale named now) = inr refl
+refusal-status (Moved name) = inr refl
+refusal-status (Kept name) = inr refl
+refusal-status (Later name monday) = inr refl
 refusal-status (NoHistory name) = inr refl
+refusal-status (DraftsFull monday) = inr refl
 
 -- the statuses of what is said of a text
 IsAnswered : Said → Type 0
 IsAnswered said = (said.status ≡ 0) ⊎ ((said.status ≡ 3) ⊎ (said.status ≡ 4))
 
-answered-refusal : (said : Said) (r : Refusal) → said ≡ refused r → IsAnswered said
+answered-refusal : (said : Said) (r : Refusal) → IsRefused r said → IsAnswered said
 unfolding IsAnswered
-answered-refusal said r e = elim (refusal-status r) [
-  | inl three ↦ inr (inl (ap (λ (s : Said). s.status) e ∙ three))
-  | inr four ↦ inr (inr (ap (λ (s : Said). s.status) e ∙ four))
+answered-refusal said r is = elim (refusal-status r) [
+  | inl three ↦ inr (inl (is.0 ∙ three))
+  | inr four ↦ inr (inr (is.0 ∙ four))
 ]
 
 answered-plan : (limits : Limits) (r : Result Book Refusal) (said : Said) → SaysPlan limits r said → IsAnswered said
@@ -145,7 +152,7 @@ succeeds ask left rest before after held holds old new status (inl (said, says, 
 succeeds ask left rest before after held holds old new status (inl (said, (given, gives, inl fault), inl tells)) zero =
     absurd (omega (arith, tells.0, zero, ap (λ (s : Said). s.status) fault.0))
 succeeds ask left rest before after held holds old new status (inl (said, (given, gives, inr (inl long)), inl tells)) zero =
-    absurd (omega (arith, tells.0, zero, ap (λ (s : Said). s.status) long.1))
+    absurd (omega (arith, tells.0, zero, long.1.0))
 succeeds ask left rest before after held holds old new status (inl (said, (given, gives, inr (inr all)), inl tells)) zero = record {
   text = given;
   given = gives;
@@ -157,10 +164,10 @@ succeeds ask left rest before after held holds old new status (inl (said, (given
 }
 
 -- a refusal is told with another status
-not_refused : {P : Type 0} (said : Said) (refusal : Refusal) → said ≡ refused refusal → said.status ≡ 0 → P
+not_refused : {P : Type 0} (said : Said) (refusal : Refusal) → IsRefused refusal said → said.status ≡ 0 → P
 not_refused said refusal is zero = elim (refusal-status refusal) [
-  | inl three ↦ absurd (omega (arith, zero, three, ap (λ (s : Said). s.status) is))
-  | inr four ↦ absurd (omega (arith, zero, four, ap (λ (s : Said). s.status) is))
+  | inl three ↦ absurd (omega (arith, zero, three, is.0))
+  | inr four ↦ absurd (omega (arith, zero, four, is.0))
 ]
 
 -- a plan that is told with status 0 is the report of an outcome that is right for the accepted case

@@ -19,6 +19,7 @@ use Rattle.duty_plan.specs.Trees.{IsRight}
 use Rattle.duty_plan.specs.Values.{ArePairsOf}
 use Rattle.desk_csv.specs.declared.errors.Form.TheVariants as form
 use Rattle.desk_report.specs.Reports.{IsBodyOf}
+use Rattle.desk_core.specs.declared.refusals.Refusal.{Refusal}
 use Rattle.desk_core.specs.declared.refusals.Refusal.TheVariants.{Long}
 use Rattle.desk_core.specs.Refusing.{rows_said}
 use Rattle.desk_core.specs.Planning.{case_said}
@@ -26,7 +27,7 @@ use Rattle.desk_core.specs.Books.{book}
 use Rattle.desk_core.specs.Checking.{check_said}
 use Rattle.desk_core.specs.Laws.{AreVerdicts}
 use Rattle.desk.specs.declared.asks.Ask.{Ask}
-use Rattle.desk.specs.Saying.{Said, usage, read_fault, refused, Says}
+use Rattle.desk.specs.Saying.{Said, usage, read_fault, IsRefused, Says}
 
 -- the most bytes of a text
 abbrev pub text_limit : ℕ
@@ -36,7 +37,7 @@ text_limit = 1048576
 abbrev pub SaysGiven : Ask → List ℕ → Option (List ℕ) → ℕ → ℕ → Said → Type 0
 SaysGiven ask given left before after said =
     ((said ≡ read_fault) × (after ≡ counted_up before))
-    ⊎ (((text_limit < length given) × (said ≡ refused Long) × (after ≡ before))
+    ⊎ (((text_limit < length given) × IsRefused Long said × (after ≡ before))
     ⊎ ((length given ≤ text_limit) × NothingLeft left × Says ask given said × (after ≡ before)))
 
 -- what is said, by what the source had left and has left, and by its count of faults: no command reads nothing
@@ -55,10 +56,10 @@ Tells said held holds before after status =
 abbrev pub WantsMemory : Option (List ℕ) → Option (List ℕ) → ℕ → ℕ → ℕ → Type 0
 WantsMemory held holds before after status = (status ≡ 8) × (holds ≡ held) × (after ≡ before)
 
--- this is told, or nothing for want of memory
-abbrev pub TellsOrWants : Said → Option (List ℕ) → Option (List ℕ) → ℕ → ℕ → ℕ → Type 0
-TellsOrWants said held holds before after status =
-    Tells said held holds before after status ⊎ WantsMemory held holds before after status
+-- a refusal is told, or nothing for want of memory
+abbrev pub TellsRefusal : Refusal → Option (List ℕ) → Option (List ℕ) → ℕ → ℕ → ℕ → Type 0
+TellsRefusal refusal held holds before after status =
+    ((said : Said) × IsRefused refusal said × Tells said held holds before after status) ⊎ WantsMemory held holds before after status
 
 -- what is said of a text is told, or nothing for want of memory
 abbrev pub TellsText : Ask → List ℕ → Option (List ℕ) → Option (List ℕ) → ℕ → ℕ → ℕ → Type 0

@@ -4,8 +4,8 @@ ghost use Rattle.std.specs.String.{string_bytes};
 ghost use Rattle.duty_plan.specs.declared.outcomes.Limits.{Limits};
 ghost use Rattle.desk.specs.Asking.{asked_by};
 ghost use Rattle.desk.specs.Asked.{IsAsked};
-ghost use Rattle.desk.specs.Saying.{AnswersAsk, status_of, refused};
-ghost use Rattle.desk.specs.Running.{Tells, TellsOrWants, TellsText, Runs, IsPlanned, IsChecked, text_limit};
+ghost use Rattle.desk.specs.Saying.{AnswersAsk, status_of};
+ghost use Rattle.desk.specs.Running.{Tells, TellsRefusal, TellsText, Runs, IsPlanned, IsChecked, text_limit};
 ghost use Rattle.desk_io.specs.Device.{counted_up};
 
 use crate::asks::{Ask, read_words};
@@ -39,23 +39,30 @@ fn tell<K: Sink>(sink: &mut K, text: &[u8], status: u8) -> u8
     }
 }
 
-/// The status of a refusal: 4 where the text is well and a history is missing, else 3.
+/// The status of a refusal: 3 where the text is at fault, 4 where what is kept is.
 fn status_of(refusal: &Refusal) -> u8
     ensures { result ≡ status_of refusal.now }
 {
     match refusal {
-        Refusal::NoHistory(_) => 4,
         Refusal::Long
         | Refusal::Csv(_)
         | Refusal::Week(_)
         | Refusal::Past(_, _)
         | Refusal::Line(_, _) => 3,
+        Refusal::Published(_, _)
+        | Refusal::NoDraft(_)
+        | Refusal::Stale(_, _)
+        | Refusal::Moved(_)
+        | Refusal::Kept(_)
+        | Refusal::Later(_, _)
+        | Refusal::NoHistory(_)
+        | Refusal::DraftsFull(_) => 4,
     }
 }
 
 /// Tells a refusal by its line and its status.
 fn tell_refusal<K: Sink>(alloc: Global, sink: &mut K, refusal: &Refusal) -> u8
-    ensures { TellsOrWants (refused refusal.now) (K.held sink.old) (K.held sink.new) (K.faults sink.old) (K.faults sink.new) result }
+    ensures { TellsRefusal refusal.now (K.held sink.old) (K.held sink.new) (K.faults sink.old) (K.faults sink.new) result }
 {
     match refusal_line(alloc, refusal) {
         Ok(line) => tell(sink, line.as_slice(), status_of(refusal)),
@@ -97,6 +104,7 @@ fn tell_answer<R: Threads + Sync, K: Sink>(
     match answer(rt, gate, alloc, ask, text) {
         Ok(reply) => tell(sink, reply.as_slice(), 0),
         Err(Stop::Refused(refusal)) => tell_refusal(alloc, sink, &refusal),
+        Err(Stop::Fault) => unreachable!(),
         Err(Stop::Memory) => WANT_OF_MEMORY,
     }
 }
