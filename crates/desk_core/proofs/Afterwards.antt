@@ -40,8 +40,16 @@ pub stints-total : (week : Week) (partial : PartialDuty) → total_of (stints_of
 stints-total week [] = refl
 stints-total week (step ∷ before) =
     let act : Stint = record { mark = mark_of step.act; minutes = minutes_of week (place_after before) step.act; kind = Plain } in
-    omega (arith, stints-total week before, total-append (stints_of week before) (stay_stints step.stay ++ act ∷ []), total-append (stay_stints step.stay) (act ∷ []),
-    total-append (ready_stints step.stay.ready) (off_stints step.stay.off step.stay.kind), ready-total step.stay.ready, off-total step.stay.off step.stay.kind, at-step week step before)
+    omega (
+      arith,
+      stints-total week before,
+      total-append (stints_of week before) (stay_stints step.stay ++ act ∷ []),
+      total-append (stay_stints step.stay) (act ∷ []),
+      total-append (ready_stints step.stay.ready) (off_stints step.stay.off step.stay.kind),
+      ready-total step.stay.ready,
+      off-total step.stay.off step.stay.kind,
+      at-step week step before,
+    )
 
 pub element : {X : Type 0} (xs : List X) (i : ℕ) (x d : X) → i < length xs → x ≡ get_or xs i d → slice_get xs i ≡ Some x
 element [] i x d l e = absurd (omega arith)

@@ -30,8 +30,13 @@ day_count-2100 = day_count-early (pos 2100) 12099 1 1 refl (omega arith) (omega 
 last_day : (t : List ℕ) → IsDateText 2000 2099 t → text_day t ≤ℤ pos 47481
 unfolding IsDateText
 last_day t h =
-    omega (arith, signed_arith, day_count-2100, days_from_civil-day_count (pos (four_at t 0)) (two_at t 5) (two_at t 8),
-    day_count-lt_year (pos (four_at t 0)) (two_at t 5) (two_at t 8) (pos 2100) 1 1 h.2 (omega arith) (omega (arith, signed_arith, h.1)))
+    omega (
+      arith,
+      signed_arith,
+      day_count-2100,
+      days_from_civil-day_count (pos (four_at t 0)) (two_at t 5) (two_at t 8),
+      day_count-lt_year (pos (four_at t 0)) (two_at t 5) (two_at t 8) (pos 2100) 1 1 h.2 (omega arith) (omega (arith, signed_arith, h.1)),
+    )
 
 last_monday : (m : Monday) → m.day ≤ℤ pos 47481 → m.day ≤ℤ pos 47478
 last_monday m h = omega (arith, signed_arith, m.day_in.0, m.is_monday, weekday_number-parts m.day)

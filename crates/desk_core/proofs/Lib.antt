@@ -6,4 +6,6 @@ pub mod Seeing
 pub mod Publications
 pub mod Histories
 pub mod Afterwards
+pub mod PlannedWeeks
+pub mod DraftDrivers
 pub mod LastMonday

@@ -28,8 +28,7 @@ pub is_issued : (told asked seen after : Option Tables) (monday : Monday) (revis
 is_issued None asked seen after monday revision receipt draft drivers begun text same1 same2 then said are as_seen number begins ends = then ∙ ap (option_map (with_issue draft)) (same2 ∙ same1)
 is_issued (Some t) asked seen after monday revision receipt draft drivers begun text same1 same2 then said are as_seen number begins ends =
     let here : AreAsSeen t draft.drivers = subst (AreAsSeen t) are (carried (λ t. AreAsSeen t drivers) (Some t) asked same1 as_seen) in
-    let next : receipt ≡ next_receipt t = carried (λ t. receipt ≡ next_receipt t) (Some t) seen (same2 ∙ same1) number in
-    (
+    let next : receipt ≡ next_receipt t = carried (λ t. receipt ≡ next_receipt t) (Some t) seen (same2 ∙ same1) number in (
       with_issue draft t,
       then ∙ ap (option_map (with_issue draft)) (same2 ∙ same1),
       (draft, rw (← said) (refl, here), rw (← next) (is_publication monday receipt begins.0 begun text begins.1 begins.2 ends), refl),

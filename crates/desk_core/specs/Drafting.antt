@@ -1,5 +1,5 @@
 -- What a week text and the tables make of a draft.
-use Rattle.std.specs.Prelude.{◌≡◌, ℕ, ◌+◌, ◌/◌, ◌==◌, if◌then◌else◌, ℤ, ◌-ℤ◌, int_le, unsigned_abs, Option, Some, None, Result, Ok, Err, List, [], ◌∷◌, ◌++◌, length, map, slice_get}
+use Rattle.std.specs.Prelude.{◌≡◌, ℕ, ◌+◌, ◌/◌, ◌==◌, if◌then◌else◌, ℤ, ◌-ℤ◌, int_le, unsigned_abs, Option, Some, None, IfSome, Result, Ok, Err, List, [], ◌∷◌, ◌++◌, length, map, slice_get}
 use Rattle.minute_line.specs.declared.dates.Monday.{Monday}
 use Rattle.minute_line.specs.Histories.{Fields, fields_of}
 use Rattle.week_book.specs.declared.rows.Row.{Row}
@@ -93,31 +93,39 @@ planned text tables = do
   past ← all_planned_with read.week.monday.day tables [] read.week.drivers read.past
   Ok (record { book = record { week = read.week; past = past }; revision = revision })
 
--- a driver of a draft: what is kept of the driver now, and the history after the duty
-pub record IsDriverOf (tables : Tables) (week : Week) (number : ℕ) (driver : Driver) (past : Fields) (duty : Duty) (fields : DriverFields) : Type 0 where
-  pub name : fields.name ≡ driver.name
-  pub seen : fields.seen ≡ history_in tables driver.name
-  pub next : fields.next ≡ advance_of past (stints_of week (partial_of duty))
+-- a driver of a draft: what was seen of the driver, and the history after the duty
+pub record IsDriverAfter (case : Case) (number : ℕ) (name : List ℕ) (duty : Duty) (seen : Option KeptFields) (fields : DriverFields) : Type 0 where
+  pub named : fields.name ≡ name
+  pub as_seen : fields.seen ≡ seen
+  pub next : IfSome (slice_get case.past number) (λ past. fields.next ≡ advance_of (fields_of past) (stints_of case.week (partial_of duty)))
 
--- the drivers of a draft: those of the week, in their order, each after the duty of the plan
-pub record AreDriversOf (tables : Tables) (case : Case) (outcome : Outcome) (drivers : List DriverFields) : Type 0 where
+-- the drivers of a draft: those of the week, in their order, each after its duty
+pub record AreDriversAfter (case : Case) (duties : List Duty) (seen : List (Option KeptFields)) (drivers : List DriverFields) : Type 0 where
   pub each : length drivers ≡ length case.week.drivers
-  pub theirs : (k : ℕ) (driver : Driver) (past : Fields) (duty : Duty) (fields : DriverFields) → slice_get case.week.drivers k ≡ Some driver
-      → slice_get (map fields_of case.past) k ≡ Some past → slice_get outcome.plan.duties k ≡ Some duty → slice_get drivers k ≡ Some fields
-      → IsDriverOf tables case.week k driver past duty fields
+  pub names : map (λ driver. driver.name) drivers ≡ map (λ driver. driver.name) case.week.drivers
+  pub theirs : (k : ℕ) (driver : Driver) (duty : Duty) (was : Option KeptFields) (fields : DriverFields) → slice_get case.week.drivers k ≡ Some driver
+      → slice_get duties k ≡ Some duty → slice_get seen k ≡ Some was → slice_get drivers k ≡ Some fields → IsDriverAfter case k driver.name duty was fields
 
--- the draft of what is planned: of an outcome that is right within the limits
+-- the draft of an outcome
+pub record IsDraftAfter (case : Case) (outcome : Outcome) (seen : List (Option KeptFields)) (number : ℕ) (draft : DraftFields) : Type 0 where
+  pub monday : draft.monday ≡ case.week.monday.day
+  pub revision : draft.revision ≡ number
+  pub report : IsReportOf case outcome number draft.report
+  pub export : IsExportOf case outcome draft.export
+  pub drivers : AreDriversAfter case outcome.plan.duties seen draft.drivers
+
+-- what is kept of each driver
+abbrev pub kept_now : Tables → List Driver → List (Option KeptFields)
+kept_now tables drivers = map (λ driver. history_in tables driver.name) drivers
+
+-- the draft of what is planned: of an outcome that is right within the limits, with what is kept of the drivers now
 pub record IsDraftOf (limits : Limits) (tables : Tables) (planned : Planned) (draft : DraftFields) : Type 0 where
   pub case : Case
   pub is_planned : book case ≡ planned.book
   pub valid : IsCase case
   pub outcome : Outcome
   pub right : IsRight case limits outcome
-  pub monday : draft.monday ≡ case.week.monday.day
-  pub revision : draft.revision ≡ planned.revision
-  pub report : IsReportOf case outcome planned.revision draft.report
-  pub export : IsExportOf case outcome draft.export
-  pub drivers : AreDriversOf tables case outcome draft.drivers
+  pub made : IsDraftAfter case outcome (kept_now tables case.week.drivers) planned.revision draft
 
 -- the draft that a command makes, or why it makes none
 abbrev pub MakesDraft : Limits → Tables → Result Planned Refusal → Result DraftFields Refusal → Type 0

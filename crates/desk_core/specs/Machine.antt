@@ -12,6 +12,8 @@ use Rattle.desk_core.specs.declared.commands.Command.TheVariants as ask
 use Rattle.desk_core.specs.declared.commands.Reply.{Reply}
 use Rattle.desk_core.specs.declared.commands.Reply.TheVariants.{Done, Refused, KeeperFault, Memory}
 use Rattle.desk_core.specs.declared.refusals.Refusal.{Refusal}
+use Rattle.desk_core.specs.declared.refusals.Stop.{Stop}
+use Rattle.desk_core.specs.declared.refusals.Stop.TheVariants as stop
 use Rattle.desk_core.specs.Checking.{check_said}
 use Rattle.desk_core.specs.Issuing.{shown, exported, Publishes, IsPublication}
 use Rattle.desk_core.specs.Drafting.{planned, MakesDraft}
@@ -28,6 +30,10 @@ IsCommand (ask.Export monday) = ⊤
 -- a reply that changes nothing
 abbrev pub Replies : Result (List ℕ) Refusal → Tables → Result (List ℕ) Refusal → Tables → Type 0
 Replies said before reply after = (reply ≡ said) × (after ≡ before)
+
+-- a draft is kept, and its report is the reply
+abbrev pub Puts : DraftFields → Tables → Result (List ℕ) Refusal → Tables → Type 0
+Puts draft before reply after = (reply ≡ Ok draft.report) × (after ≡ with_draft draft before)
 
 -- a draft is put, and its report is the reply; or the tables stay
 abbrev pub Drafts : Limits → List ℕ → Tables → Result (List ℕ) Refusal → Tables → Type 0
@@ -55,6 +61,13 @@ IsReply command before (Done text) after = IsDone (Steps command) before (Ok tex
 IsReply command before (Refused refusal) after = IsDone (Steps command) before (Err refusal) after
 IsReply command before KeeperFault after = after ≡ before
 IsReply command before Memory after = after ≡ before
+
+-- what a command came to, as the reply
+abbrev pub reply_said : Result (List ℕ) Stop → Reply
+reply_said (Ok text) = Done text
+reply_said (Err (stop.Refused refusal)) = Refused refusal
+reply_said (Err stop.Fault) = KeeperFault
+reply_said (Err stop.Memory) = Memory
 
 -- how many of the keeper's calls failed, after a command: it ends with the first that does
 abbrev pub failed_after : ℕ → Reply → ℕ

@@ -1,5 +1,5 @@
 // What a week text and the tables make of a draft: the histories that its drivers are planned with, and its revision.
-ghost use Rattle.std.specs.Prelude.{◌≡◌, ◌≤◌, ◌≤ℤ◌, [], length, map, option_map, IfOk, IfSome};
+ghost use Rattle.std.specs.Prelude.{◌≡◌, ◌≤◌, ◌≤ℤ◌, pos, [], length, map, option_map, IfOk, IfSome};
 ghost use Rattle.minute_line.specs.Histories.{fields_of};
 ghost use Rattle.week_book.specs.Pasts.{HasPastRows};
 ghost use Rattle.week_book.specs.Weeks.{IsWeek};
@@ -49,6 +49,7 @@ pub(crate) fn read_week_text(alloc: Global, text: &Bytes) -> Result<WeekText, St
     requires { length text.now ≤ 1048576 }
     ensures read { Meets week_text result (text_said text.now) }
     ensures week { IfOk result (λ read. IsWeek read.week) }
+    ensures monday { IfOk result (λ read. read.week.monday.day ≤ℤ pos 47478) }
     ensures each { IfOk result (λ read. length read.past ≡ length read.week.drivers) }
 {
     let rows = read_rows(alloc, text, Form::Plan)?;
@@ -185,7 +186,7 @@ pub(crate) fn histories_for<B: Keeper>(
         (λ t said. said ≡ all_planned_with monday.day t [] drivers.now (map (option_map fields_of) pasts.now)) }
     ensures seen { IfOk result (λ all. IfSome (B.tables keeper.old)
         (λ t. map (option_map kept_fields) all.seen ≡ map (λ driver. history_in t driver.name) drivers.now)) }
-    ensures each { IfOk result (λ all. length all.past ≡ length drivers.now) }
+    ensures each { IfOk result (λ all. (length all.past ≡ length drivers.now) × (length all.seen ≡ length drivers.now)) }
     ensures tables { B.tables keeper.new ≡ B.tables keeper.old }
     ensures counts { B.faults keeper.new ≡ failed_by (B.faults keeper.old) result }
     ensures counted { B.faults keeper.old ≤ B.faults keeper.new }

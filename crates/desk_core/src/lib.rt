@@ -12,6 +12,7 @@ mod planning;
 mod publishing;
 mod refusals;
 mod showing;
+mod stepping;
 
 pub use checking::check_text;
 pub use commands::{Command, Reply};
@@ -21,3 +22,4 @@ pub use laws::{
 pub use lines::refusal_line;
 pub use planning::{plan_text, read_case};
 pub use refusals::{Refusal, Stop};
+pub use stepping::step;

@@ -15,7 +15,9 @@ fn report_of(issue: Issue) -> Result<Bytes, Memory>
     ensures { IfOk result (λ text. text ≡ issue_report (issue_fields issue)) }
 {
     let Issue {
-        receipt, report, ..
+        receipt,
+        report,
+        ..
     } = issue;
     let mut text = report;
     text.extend_from_slice(b"published".as_slice())?;

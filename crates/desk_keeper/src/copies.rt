@@ -18,7 +18,7 @@ pub fn copy_kept(alloc: Global, kept: &Kept) -> Result<Kept, Memory>
 }
 
 /// The same history, if there is one.
-fn copy_seen(alloc: Global, seen: &Option<Kept>) -> Result<Option<Kept>, Memory>
+pub fn copy_seen(alloc: Global, seen: &Option<Kept>) -> Result<Option<Kept>, Memory>
     ensures { IfOk result (λ copy. option_map kept_fields copy ≡ option_map kept_fields seen.now) }
 {
     match seen {

@@ -8,7 +8,7 @@ mod records;
 #[cfg(test)]
 mod tests;
 
-pub use copies::copy_kept;
+pub use copies::{copy_kept, copy_seen};
 pub use keeper::{Keeper, KeeperError};
 pub use memory::{KeptRow, MemoryKeeper};
 pub use records::{DRAFT_LIMIT, Draft, DraftDriver, Issue, Kept, next_monday};

@@ -1,0 +1,38 @@
+use Rattle.std.proofs.Common.{◌∙◌, ap, refl, map, length, option_map}
+use Rattle.minute_line.specs.Histories.{fields_of}
+use Rattle.duty_plan.specs.declared.plans.Case.{Case}
+use Rattle.duty_plan.specs.Duties.{IsCase}
+use Rattle.desk_keeper.specs.Tables.{kept_fields}
+use Rattle.desk_keeper.specs.Records.{draft_fields}
+use Rattle.desk_core.specs.WeekTexts.{week_text}
+use Rattle.desk_core.proofs.PlannedWeeks.{may_put, is_draft, plan-put, past_told, kept_told}
+use Rattle.desk_core.proofs.stepping.plan.Goals as goal
+
+pub draft_from-requires-clause-seen : goal.draft_from-requires-clause-seen
+draft_from-requires-clause-seen g c = ap length c.as_slice-2.ensures ∙ c.in_ok-past.ensures.each.1 ∙ ap length c.as_slice-drivers.ensures
+
+pub put-requires : goal.put-requires
+put-requires g c = record {
+  next = may_put (g.B.Keeper.tables c.args.keeper.now) (g.B.Keeper.tables c.histories_for.new.keeper) c.in_ok-week.field-0.week.monday c.in_ok-revision.revision
+      (draft_fields c.in_ok-draft.draft) (c.in_ok-past.ensures.tables ∙ c.in_ok-revision.ensures.tables) c.in_ok-revision.ensures.answer c.in_ok-draft.ensures.monday
+      c.in_ok-draft.ensures.revision;
+}
+
+pub returns-clause-step : goal.returns-clause-step
+returns-clause-step g c =
+    let told = g.B.Keeper.tables c.args.keeper.now in
+    let asked = g.B.Keeper.tables c.next_revision.new.keeper in
+    let now = g.B.Keeper.tables c.histories_for.new.keeper in
+    let read = week_text c.in_ok-week.field-0 in
+    let case : Case = record { week = c.in_ok-week.field-0.week; past = c.in_ok-past.field-0.past } in
+    let valid : IsCase case = record { week = c.in_ok-week.ensures.week; drivers = c.in_ok-past.ensures.each.0 ∙ ap length c.as_slice-drivers.ensures } in
+    let seen = map (option_map kept_fields) c.in_ok-past.field-0.seen in
+    let slice = map (option_map kept_fields) c.as_slice-2.result.now in
+    let past = past_told told asked read c.as_slice-drivers.result.now (map (option_map fields_of) c.as_slice.result.now) (map fields_of c.in_ok-past.field-0.past)
+    c.in_ok-revision.ensures.tables c.as_slice-drivers.ensures (ap (map (option_map fields_of)) c.as_slice.ensures) c.in_ok-past.ensures.answer in
+    let kept = kept_told told asked c.as_slice-drivers.result.now c.in_ok-week.field-0.week.drivers seen slice c.in_ok-revision.ensures.tables c.as_slice-drivers.ensures
+    (ap (map (option_map kept_fields)) c.as_slice-2.ensures) c.in_ok-past.ensures.seen in
+    let makes = is_draft c.args.limits.now c.args.text.now told read case c.in_ok-outcome.outcome c.in_ok-revision.revision (draft_fields c.in_ok-draft.draft) slice
+    c.in_ok-week.ensures.read refl valid c.in_ok-outcome.ensures.right c.in_ok-draft.ensures c.in_ok-revision.ensures.answer past kept in
+    plan-put c.args.limits.now c.args.text.now told now (g.B.Keeper.tables c.put.new.keeper) (draft_fields c.in_ok-draft.draft) c.put.result
+    (c.in_ok-past.ensures.tables ∙ c.in_ok-revision.ensures.tables) makes c.put.ensures.step
