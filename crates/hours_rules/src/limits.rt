@@ -13,7 +13,7 @@ use crate::thresholds::{
 use crate::{Broken, Clock, Rule};
 use minute_line::{Kind, Mark, REGULAR_WEEKLY_REST, WEEKLY_REST};
 
-/// More minutes than a line has.
+/// More minutes than a week has: the room by a rule that does not judge such minutes.
 const UNLIMITED: u32 = 20000;
 
 /// The rules in the order in which they are named.
@@ -32,8 +32,8 @@ const RULES: [Rule; 12] = [
     Rule::H12,
 ];
 
-/// How many minutes an off run that is declared so must have, after a weekly rest of so many minutes and where so many are owed (Art. 4,
-/// 8(6)).
+/// How many minutes an off run that is declared so must have, after a weekly rest of so many minutes and where so many are owed
+/// (Art. 4, 8(6)).
 #[inline]
 pub fn least_run(kind: Kind, weekly: u32, owed: u32) -> u32
     ensures { result ≡ least_rest kind weekly owed }

@@ -243,7 +243,7 @@ impl Clock {
 
     /// The clock after more Off minutes.
     #[inline]
-    pub(crate) fn rest(&self, minutes: u32) -> Clock
+    pub(crate) fn add_off(&self, minutes: u32) -> Clock
         requires within { IsWithin 100000 self.now }
         requires few { minutes ≤ 100000 }
         ensures { result ≡ rested self.now minutes }
