@@ -1,9 +1,8 @@
 // A week's line against the rules, and the clock of a history.
-ghost use Rattle.std.specs.Prelude.{◌≡◌, ℕ, ◌+◌, ◌≤◌, ◌<◌, ◌^◌, sum, length, true, false, []};
+ghost use Rattle.std.specs.Prelude.{◌≡◌, ◌≤◌, ◌<◌, ◌^◌, sum, false, []};
 ghost use Rattle.minute_line.specs.declared.lines.TheConstants.{PAST_LIMIT, WEEK_MINUTES};
-ghost use Rattle.minute_line.specs.Minutes.{Reached, add_stint, total_of};
-ghost use Rattle.hours_rules.specs.Rules.{Past, fault};
-ghost use Rattle.minute_line.specs.Marks.{is_duty};
+ghost use Rattle.minute_line.specs.Minutes.{total_of};
+ghost use Rattle.hours_rules.specs.Rules.{fault};
 ghost use Rattle.hours_rules.specs.Standing.{Stands, IsClock};
 ghost use Rattle.hours_rules.specs.Machine.{at_monday};
 ghost use Rattle.hours_rules.specs.Bounds.{IsWithin};

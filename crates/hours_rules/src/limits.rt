@@ -1,5 +1,5 @@
 // How many on-duty minutes the rules let follow a clock, and which rule fails at the next one.
-ghost use Rattle.std.specs.Prelude.{◌≡◌, ℕ, ◌+◌, ◌-◌, ◌^◌, ◌≤◌, ◌<◌, ◌≤ℤ◌, ◌+ℤ◌, pos, nat_lt, min, if◌then◌else◌};
+ghost use Rattle.std.specs.Prelude.{◌≡◌, ◌+◌, ◌-◌, ◌^◌, ◌≤◌, ◌<◌, ◌≤ℤ◌, ◌+ℤ◌, pos, nat_lt, min, if◌then◌else◌};
 ghost use Rattle.hours_rules.specs.Machine.{room, short_here, debt_room, limit_if, left_until, least_room, fault_after, fault_within, IsDutyRoom, work_room, drive_room};
 ghost use Rattle.hours_rules.specs.Rules.{least_rest, all_rules};
 ghost use Rattle.hours_rules.specs.declared.thresholds.TheConstants.{BRIEFLY_PAUSED_WORK, DAY_DRIVE, DAY_LENGTH, LONG_DAY_DRIVE, LONG_DAYS, LONG_PAUSES, SEVENTEEN_WEEKS_WORK, SHORT_PAUSES, UNPAUSED_WORK, WEEK_WORK, WEEKLY_SPAN};

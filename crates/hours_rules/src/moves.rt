@@ -1,5 +1,5 @@
 // How a clock moves on: a run ends, on-duty minutes go by, Off minutes go by.
-ghost use Rattle.std.specs.Prelude.{◌≡◌, ℕ, ◌≤◌, ◌<◌, ◌-◌, if◌then◌else◌, nat_le, ◌||◌, true, false, pos, ◌-ℤ◌};
+ghost use Rattle.std.specs.Prelude.{◌≡◌, ◌≤◌, ◌<◌, ◌-◌, if◌then◌else◌, nat_le, ◌||◌, true, false, pos, ◌-ℤ◌};
 ghost use Rattle.minute_line.specs.declared.debts.TheConstants.{REGULAR_WEEKLY_REST};
 ghost use Rattle.hours_rules.specs.declared.thresholds.TheConstants.{FIRST_PART, SPLIT_REST};
 ghost use Rattle.hours_rules.specs.Debts.{third_week_end};
