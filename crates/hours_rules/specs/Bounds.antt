@@ -1,4 +1,7 @@
--- How large the numbers of a clock may be. The contracts of the private functions cite this.
+-- How large the numbers of a clock may be. The contracts of the private functions cite this. A line has at most 20,160 minutes of
+-- stints, 20,160 open ones and a week's 10,080: 50,400, for which the contracts say 60,000, 80,000 or 100,000 minutes, the more
+-- the later it is in a call, so that what is added in between fits as well. Sums of sixteen weeks are at most 161,280 minutes, for
+-- which they say 200,000.
 use Rattle.std.specs.Prelude.{ℕ, ◌+◌, ◌*◌, ◌≤◌, pos, ◌+ℤ◌, ◌≤ℤ◌}
 use Rattle.minute_line.specs.declared.lines.TheConstants.{WEEK_MINUTES}
 use Rattle.minute_line.specs.declared.debts.TheConstants.{REGULAR_WEEKLY_REST}

@@ -82,6 +82,6 @@ pub record SpanBegins (begins : Minute → Minutes → Bool) (line : Minutes) : 
 abbrev pub SpansBegin : Type 0
 SpansBegin = (begins : Minute → Minutes → Bool) (line : Minutes) → SpanBegins begins line
 
--- the work day of a minute begins after the last daily or weekly run that ended before it (Art. 4)
+-- the work day of a minute begins after the last daily or weekly rest that ended before it (Art. 4)
 abbrev pub DayFollowsRest : Type 0
 DayFollowsRest = (line : Minutes) → SpanBegins ends_rest line

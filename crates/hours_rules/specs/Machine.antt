@@ -95,7 +95,7 @@ ticked c mark n = record c {
 abbrev pub rested : Clock → ℕ → Clock
 rested c n = record c { at = c.at + n; off = c.off + n }
 
--- more minutes than a line has
+-- more minutes than a week has, or the stints of a history: the room by a rule that does not judge such minutes
 abbrev pub unlimited : ℕ
 unlimited = 20000
 

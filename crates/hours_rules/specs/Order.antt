@@ -1,4 +1,8 @@
--- When one clock is at least as good as another.
+-- When one clock is at least as good as another. There are three orders, each for one use. Rules are judged minute by minute, so
+-- `DominatesAtMinute` compares two clocks at one minute, with the same open run: it lasts whatever is added (`OrderLasts`). A
+-- search meets its clocks after acts, mostly at different minutes: `IsEarlier` is such a pair, which Ready minutes bring to one
+-- minute (`ReadyCatchesUp`). `ClockDominates` is what is computed: it reads two clocks alone, and leaves out what is the same for
+-- the clocks of one driver after acts, which is last week, the sixteen weeks, and no open run.
 use Rattle.std.specs.Prelude.{◌≡◌, ◌≤◌, ◌<◌, ◌+◌, true, ◌≤ℤ◌, length, ◌++◌, None, pos, ◌-ℤ◌, ◌-◌, ◌∷◌}
 use Rattle.minute_line.specs.declared.marks.Mark.TheVariants.{Ready}
 use Rattle.minute_line.specs.declared.marks.Kind.TheVariants.{Plain}
@@ -55,7 +59,7 @@ pub record IsEarlier (a b : Clock) : Type 0 where
   pub off : (a.off ≡ 0) × (b.off ≡ 0)
   pub as_good : DominatesAtMinute (record a { at = b.at }) b
 
--- the clock keeps the limits that are judged at any on-duty minute (Art. 8): a debt can still be paid in time
+-- the clock is within the limits that are judged at any minute on duty (Art. 8): a debt can still be paid in time
 pub record IsRested (c : Clock) : Type 0 where
   pub day : (pos c.at -ℤ c.day_from) ≤ℤ pos DAY_LENGTH
   pub week : (pos c.at -ℤ c.rest_from) ≤ℤ pos WEEKLY_SPAN
@@ -63,14 +67,14 @@ pub record IsRested (c : Clock) : Type 0 where
   pub debt : 0 < c.owed → pos (c.at + REGULAR_DAILY_REST + c.owed) ≤ℤ c.due
 
 -- a clock at an earlier minute that is as good is brought to the later one's minute by Ready minutes, with no rule
--- broken, and is then as good in every field; the later one keeps the limits of an on-duty minute
+-- broken, and is then as good in every field; the later one is within the limits of a minute on duty
 abbrev pub ReadyCatchesUp : Type 0
 ReadyCatchesUp = (a b : Clock) (pa pb : Past) (wa wb : Minutes) → Stands a pa wa → Stands b pb wb → IsEarlier a b →
     IsRested b → b.at ≤ WEEK_MINUTES →
     Together pa pb (stretch (b.at - a.at) Ready Plain wa) wb
     × (fault_from (length wa) pa (stretch (b.at - a.at) Ready Plain wa) ≡ None)
 
--- the last minute of a line keeps those limits where it is on duty and breaks no rule
+-- the clock after a minute on duty that breaks no rule is within those limits
 abbrev pub LastKeepsLimits : Type 0
 LastKeepsLimits = (b : Clock) (past : Past) (m : Minute) (week : Minutes) → Stands b past (m ∷ week) →
     is_duty m.mark ≡ true → failing past m week ≡ None → IsRested b

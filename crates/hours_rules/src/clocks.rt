@@ -1,32 +1,37 @@
 // What of a line the rules read, and what a step of a duty adds before its act.
 use minute_line::Kind;
 
-/// The numbers of a line, cut at a week minute, that the rules read. Lengths and counts are minutes.
+/// The numbers of a line, cut at a week minute, that the rules read. Lengths and counts are minutes. The off run that is open
+/// there counts in `at` and `off` alone: what it is to the rules shows at the minute on duty that ends it.
 #[derive(Clone, Copy, PartialEq, Eq, Debug)]
 pub struct Clock {
     /// The week minute reached.
     pub at: u32,
     /// The length of the open off run, which has not ended.
     pub off: u32,
-    /// Where the work day began, as a week minute; below 0 before Monday.
+    /// Where the work day began, as a week minute, below 0 before Monday: where the last daily or weekly rest ended, or else
+    /// where the line begins.
     pub day_from: i32,
-    /// Where the last weekly rest ended, as a week minute.
+    /// Where the last weekly rest ended, as a week minute, or else where the line begins. Daily rests and breaks leave it as it
+    /// is.
     pub rest_from: i32,
-    /// The Drive minutes of the driving period.
+    /// The Drive minutes of the driving period, which is all since the last full break.
     pub period: u32,
     /// The Drive minutes of the work day.
     pub drive_day: u32,
-    /// How many long days that count in the week have ended.
+    /// How many long days of the week have ended: those whose rest follows a minute of the week.
     pub long_days: u32,
     /// How many reduced daily rests have ended since the last weekly rest.
     pub reduced: u32,
-    /// The length of the last weekly rest.
+    /// The length of the last weekly rest that has ended.
     pub prev_weekly: u32,
-    /// The working minutes since the last off run of 15 or more.
+    /// The working minutes since the last off run of 15 or more. Ready minutes and shorter off runs lie among them: they do not
+    /// count, and do not end the stretch.
     pub work_run: u32,
-    /// The working minutes of the work day.
+    /// The working minutes of the work day, without its Ready minutes.
     pub work_day: u32,
-    /// The Off minutes of the work day in off runs of 15 or more, held at 45.
+    /// The Off minutes of the work day in off runs of 15 or more, held at 45, the most that a rule asks for. Shorter runs are left
+    /// out, and so is the rest that the day began after.
     pub pause_day: u32,
     /// The Drive minutes of the week.
     pub drive_week: u32,
@@ -40,9 +45,11 @@ pub struct Clock {
     pub owed: u32,
     /// The end of the week by which they are due, as a week minute.
     pub due: i32,
-    /// Whether the driving period has an off run of 15 or more, the first part of a break.
+    /// Whether the driving period has an off run of 15 or more, the first part of a break. The break that the period began after
+    /// is left out, so a run of 45 is never a first part.
     pub half: bool,
-    /// Whether the work day has an off run of 180 or more.
+    /// Whether the work day has an off run of 180 or more, the first part of a daily rest in two parts. The rest that the day began
+    /// after is left out.
     pub split: bool,
 }
 

@@ -40,9 +40,12 @@ pub(crate) fn on_duty(clock: &Clock, mark: Mark, kind: Kind, minutes: u32) -> Re
     go_on(clock, mark, kind, minutes)
 }
 
-/// The clock after a stay and an act of some Drive or Work minutes, or the first fault in the minutes that they add.
+/// The clock of the line with a stay and an act of some Drive or Work minutes more, where each rule holds at each of these
+/// minutes; or else the first of them at which a rule fails, with the least rule there. The minutes before them are not judged
+/// again.
 ///
-/// No Ready minutes go into an open off run, and a daily or weekly stay has an off run: its own, or the open one.
+/// The stay's Off minutes break no rule: what their run was declared to be is judged at the act's first minute. No Ready minutes
+/// follow an open off run, and a stay that is declared a rest has an off run, its own or the open one.
 pub fn go(clock: &Clock, stay: Stay, mark: Mark, minutes: u32) -> Result<Clock, Broken>
     requires clock { IsClock clock.now }
     requires act { is_working mark ≡ true }
@@ -54,6 +57,6 @@ pub fn go(clock: &Clock, stay: Stay, mark: Mark, minutes: u32) -> Result<Clock, 
     ensures clock { IfOk result IsClock }
 {
     let waited = on_duty(clock, Mark::Ready, Kind::Plain, stay.ready)?;
-    let rested = waited.rest(stay.off);
-    on_duty(&rested, mark, stay.kind, minutes)
+    let stayed = waited.add_off(stay.off);
+    on_duty(&stayed, mark, stay.kind, minutes)
 }

@@ -1,9 +1,8 @@
 // A week's line against the rules, and the clock of a history.
-ghost use Rattle.std.specs.Prelude.{◌≡◌, ℕ, ◌+◌, ◌≤◌, ◌<◌, ◌^◌, sum, length, true, false, []};
+ghost use Rattle.std.specs.Prelude.{◌≡◌, ◌≤◌, ◌<◌, ◌^◌, sum, false, []};
 ghost use Rattle.minute_line.specs.declared.lines.TheConstants.{PAST_LIMIT, WEEK_MINUTES};
-ghost use Rattle.minute_line.specs.Minutes.{Reached, add_stint, total_of};
-ghost use Rattle.hours_rules.specs.Rules.{Past, fault};
-ghost use Rattle.minute_line.specs.Marks.{is_duty};
+ghost use Rattle.minute_line.specs.Minutes.{total_of};
+ghost use Rattle.hours_rules.specs.Rules.{fault};
 ghost use Rattle.hours_rules.specs.Standing.{Stands, IsClock};
 ghost use Rattle.hours_rules.specs.Machine.{at_monday};
 ghost use Rattle.hours_rules.specs.Bounds.{IsWithin};
@@ -32,7 +31,7 @@ fn pass(clock: &Clock, declared: Kind, stint: &Stint) -> Clock
     ensures { StandsAfter clock.now declared stint.now result }
 {
     if stint.mark.is_off() {
-        return clock.rest(stint.minutes);
+        return clock.add_off(stint.minutes);
     }
     if stint.minutes == 0 {
         return *clock;
@@ -47,7 +46,7 @@ fn judged(clock: &Clock, declared: Kind, stint: &Stint) -> Result<Clock, Broken>
     ensures { AnswersStint clock.now declared stint.now result }
 {
     if stint.mark.is_off() {
-        return Ok(clock.rest(stint.minutes));
+        return Ok(clock.add_off(stint.minutes));
     }
     on_duty(clock, stint.mark, declared, stint.minutes)
 }
@@ -108,8 +107,8 @@ pub fn start(history: &History) -> Clock
         clock = pass(&clock, declared, stint);
         declared = declared_after(stint);
     }
-    let rested = clock.rest(history.open_off);
-    to_monday(&rested)
+    let sunday = clock.add_off(history.open_off);
+    to_monday(&sunday)
 }
 
 /// What the rules say of a week's line after a history: the first minute at which one fails, with the least rule there.

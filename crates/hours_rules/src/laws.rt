@@ -7,12 +7,12 @@ pub fn forty_five_ends_a_period()
     ensures { FortyFiveEnds }
 {}
 
-/// The law that 15 to 44 minutes and then 30 end the driving period.
+/// The law that 15 to 44 minutes and then 30 end the driving period (Art. 7).
 pub fn fifteen_then_thirty_end_a_period()
     ensures { FifteenThenThirtyEnds }
 {}
 
-/// The law that 30 minutes and then 15 don't.
+/// The law that 30 minutes and then 15 don't (Art. 7).
 pub fn thirty_then_fifteen_end_none()
     ensures { ThirtyThenFifteenGoesOn }
 {}
@@ -44,7 +44,7 @@ pub fn ready_catches_up()
     ensures { ReadyCatchesUp }
 {}
 
-/// The law that a clock keeps the limits of rest and time where its last minute was on duty and broke no rule.
+/// The law that a clock is within the limits that are judged at any minute on duty, where its last minute was one and broke no rule.
 pub fn last_keeps_limits()
     ensures { LastKeepsLimits }
 {}

@@ -1,5 +1,5 @@
 // How many on-duty minutes the rules let follow a clock, and which rule fails at the next one.
-ghost use Rattle.std.specs.Prelude.{◌≡◌, ℕ, ◌+◌, ◌-◌, ◌^◌, ◌≤◌, ◌<◌, ◌≤ℤ◌, ◌+ℤ◌, pos, nat_lt, min, if◌then◌else◌};
+ghost use Rattle.std.specs.Prelude.{◌≡◌, ◌+◌, ◌-◌, ◌^◌, ◌≤◌, ◌<◌, ◌≤ℤ◌, ◌+ℤ◌, pos, nat_lt, min, if◌then◌else◌};
 ghost use Rattle.hours_rules.specs.Machine.{room, short_here, debt_room, limit_if, left_until, least_room, fault_after, fault_within, IsDutyRoom, work_room, drive_room};
 ghost use Rattle.hours_rules.specs.Rules.{least_rest, all_rules};
 ghost use Rattle.hours_rules.specs.declared.thresholds.TheConstants.{BRIEFLY_PAUSED_WORK, DAY_DRIVE, DAY_LENGTH, LONG_DAY_DRIVE, LONG_DAYS, LONG_PAUSES, SEVENTEEN_WEEKS_WORK, SHORT_PAUSES, UNPAUSED_WORK, WEEK_WORK, WEEKLY_SPAN};
@@ -13,7 +13,7 @@ use crate::thresholds::{
 use crate::{Broken, Clock, Rule};
 use minute_line::{Kind, Mark, REGULAR_WEEKLY_REST, WEEKLY_REST};
 
-/// More minutes than a line has.
+/// More minutes than a week has: the room by a rule that does not judge such minutes.
 const UNLIMITED: u32 = 20000;
 
 /// The rules in the order in which they are named.
@@ -32,8 +32,8 @@ const RULES: [Rule; 12] = [
     Rule::H12,
 ];
 
-/// How many minutes an off run that is declared so must have, after a weekly rest of so many minutes and where so many are owed (Art. 4,
-/// 8(6)).
+/// How many minutes an off run that is declared so must have, after a weekly rest of so many minutes and where so many are owed
+/// (Art. 4, 8(6)).
 #[inline]
 pub fn least_run(kind: Kind, weekly: u32, owed: u32) -> u32
     ensures { result ≡ least_rest kind weekly owed }

@@ -1,5 +1,5 @@
 // How a clock moves on: a run ends, on-duty minutes go by, Off minutes go by.
-ghost use Rattle.std.specs.Prelude.{◌≡◌, ℕ, ◌≤◌, ◌<◌, ◌-◌, if◌then◌else◌, nat_le, ◌||◌, true, false, pos, ◌-ℤ◌};
+ghost use Rattle.std.specs.Prelude.{◌≡◌, ◌≤◌, ◌<◌, ◌-◌, if◌then◌else◌, nat_le, ◌||◌, true, false, pos, ◌-ℤ◌};
 ghost use Rattle.minute_line.specs.declared.debts.TheConstants.{REGULAR_WEEKLY_REST};
 ghost use Rattle.hours_rules.specs.declared.thresholds.TheConstants.{FIRST_PART, SPLIT_REST};
 ghost use Rattle.hours_rules.specs.Debts.{third_week_end};
@@ -243,7 +243,7 @@ impl Clock {
 
     /// The clock after more Off minutes.
     #[inline]
-    pub(crate) fn rest(&self, minutes: u32) -> Clock
+    pub(crate) fn add_off(&self, minutes: u32) -> Clock
         requires within { IsWithin 100000 self.now }
         requires few { minutes ≤ 100000 }
         ensures { result ≡ rested self.now minutes }

@@ -5,34 +5,36 @@ ghost use Rattle.hours_rules.specs.Rules.{rule_number};
 /// The rules, in the order in which the faults of one minute are named.
 #[derive(Clone, Copy, PartialEq, Eq, Debug)]
 pub enum Rule {
-    /// At each Drive minute: at most 270 Drive minutes in its driving period (Regulation 561/2006, Art. 7).
+    /// At each Drive minute: its driving period has at most 270 Drive minutes up to and with it (Regulation 561/2006, Art. 7).
     H1,
-    /// At each Drive minute: at most 540 Drive minutes in its work day, or 600 where fewer than two long days of the week have
-    /// ended (Art. 6(1)).
+    /// At each Drive minute: its work day has at most 540 Drive minutes up to and with it, or at most 600 where fewer than two
+    /// long days of this week have ended (Art. 6(1)).
     H2,
-    /// At each on-duty minute: it is among the first 900 of its work day (Art. 8(2)).
+    /// At each minute on duty: it is among the first 900 minutes of its work day (Art. 8(2)).
     H3,
-    /// At each on-duty minute: at most three reduced daily rests have ended since the last weekly rest (Art. 8(4)).
+    /// At each minute on duty: at most three reduced daily rests have ended since the last weekly rest (Art. 8(4)).
     H4,
-    /// At the first on-duty minute after a daily or weekly rest: a daily rest has 540 minutes, and a weekly one 1,440, or 2,700
-    /// after one that was shorter and while a debt is owed (Art. 4, 8(6)).
+    /// At the first minute on duty after a rest: a daily rest has at least 540 minutes; a weekly rest has at least 1,440, and at
+    /// least 2,700 where the weekly rest before it had less, or while a debt is owed (Art. 4, 8(6)).
     H5,
-    /// At each on-duty minute: it is among the first 8,640 after the last weekly rest (Art. 8(6)).
+    /// At each minute on duty: it is among the first 8,640 minutes (six days) after the last weekly rest (Art. 8(6)).
     H6,
-    /// At each Drive minute: at most 3,360 Drive minutes in the week (Art. 6(2)).
+    /// At each Drive minute: the week has at most 3,360 Drive minutes up to and with it (Art. 6(2)).
     H7,
-    /// At each Drive minute: at most 5,400 Drive minutes in two weeks (Art. 6(3)).
+    /// At each Drive minute: the Drive minutes of the week up to and with it, and last week's, are at most 5,400 (Art. 6(3)).
     H8,
-    /// At each working minute: at most 3,600 working minutes in the week, and 48,960 in seventeen weeks (Directive 2002/15/EC,
-    /// Art. 4).
+    /// At each working minute: the week has at most 3,600 working minutes up to and with it, and with the sixteen weeks before at
+    /// most 48,960, which is 48 hours a week on average (Directive 2002/15/EC, Art. 4).
     H9,
-    /// At each working minute: at most 360 working minutes since the last off run of 15 (Directive, Art. 5).
+    /// At each working minute: at most 360 working minutes, up to and with it, since the last off run of 15 minutes or more
+    /// (Directive, Art. 5).
     H10,
-    /// At each working minute: pauses of 30 minutes in the work day where it is the 361st of the day or later, and of 45 where it
-    /// is the 541st or later (Directive, Art. 5).
+    /// At each working minute: the off runs of 15 minutes or more before it in its work day have at least 30 minutes together
+    /// where it is the day's 361st working minute or a later one, and at least 45 where it is the 541st or a later one (Directive,
+    /// Art. 5).
     H11,
-    /// At each on-duty minute: nothing is owed for a reduced weekly rest, or the time after it up to when that is due has room for
-    /// a rest of 660 minutes and the debt (Art. 8(6), 8(7)).
+    /// At each minute on duty: nothing is owed for a reduced weekly rest, or there is still room for a daily rest of 660 minutes
+    /// and the debt before it is due (Art. 8(6), 8(7)).
     H12,
 }
 

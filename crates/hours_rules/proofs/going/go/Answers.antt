@@ -11,13 +11,13 @@ use Rattle.hours_rules.proofs.going.go.Goals as goal
 pub on_duty-requires-clause-within : goal.on_duty-requires-clause-within
 on_duty-requires-clause-within c = within-more 60000 80000 _ (omega arith) (within-clock c.args.clock.now c.requires.clock)
 
-pub rest-rested-requires-clause-within : goal.rest-rested-requires-clause-within
-rest-rested-requires-clause-within c =
+pub add_off-stayed-requires-clause-within : goal.add_off-stayed-requires-clause-within
+add_off-stayed-requires-clause-within c =
     within-more (60000 + c.args.stay.ready + 1) 100000 _ (omega arith) (c.in_ok-waited.ensures.within 60000 (within-clock c.args.clock.now c.requires.clock))
 
 pub on_duty-requires-2-clause-within : goal.on_duty-requires-2-clause-within
 on_duty-requires-2-clause-within c =
-    rw c.rest-rested.ensures
+    rw c.add_off-stayed.ensures
     (within-rested (60000 + c.args.stay.ready + 1) c.args.stay.off 80000 _ (omega arith) (c.in_ok-waited.ensures.within 60000 (within-clock c.args.clock.now c.requires.clock)))
 
 pub returns-in_err-waited-clause-line : goal.returns-in_err-waited-clause-line
@@ -35,7 +35,7 @@ returns-clause-line c = λ from past week s start none.
     let later : from ≤ length (stretch stay.off Off Plain (stretch stay.ready Ready Plain week)) =
     omega (arith, length-stretch stay.off Off Plain (stretch stay.ready Ready Plain week), length-stretch stay.ready Ready Plain week) in
     c.on_duty-2.ensures.block from past (stretch stay.off Off Plain (stretch stay.ready Ready Plain week))
-    (rw c.rest-rested.ensures (stands-off_block c.in_ok-waited.waited past stay.off Plain _ good.0))
+    (rw c.add_off-stayed.ensures (stands-off_block c.in_ok-waited.waited past stay.off Plain _ good.0))
     later
     (fault-off from past stay.off Plain _ ∙ good.1)
 

@@ -8,7 +8,7 @@ use Rattle.hours_rules.proofs.judging.pass.Goals as goal
 
 pub returns-then-is_off : goal.returns-then-is_off
 returns-then-is_off c = λ past reached d s.
-    rw (block-off c.args.stint.now.mark c.args.stint.now.minutes c.args.stint.now.kind reached (off_mark _ (sym c.is_off.ensures ∙ c.if-is_off.true)), c.rest.ensures)
+    rw (block-off c.args.stint.now.mark c.args.stint.now.minutes c.args.stint.now.kind reached (off_mark _ (sym c.is_off.ensures ∙ c.if-is_off.true)), c.add_off.ensures)
     (stands-off_block c.args.clock.now past c.args.stint.now.minutes Plain reached.minutes s)
 
 pub tick-requires-clause-within : goal.tick-requires-clause-within

@@ -25,15 +25,15 @@ loop-stint-preserved c =
       declared = rw step (c.declared_after-declared.ensures _);
     }
 
-pub rest-rested-requires-clause-within : goal.rest-rested-requires-clause-within
-rest-rested-requires-clause-within c =
+pub add_off-sunday-requires-clause-within : goal.add_off-sunday-requires-clause-within
+add_off-sunday-requires-clause-within c =
     let h = is_history c.args.history.now in
     within-read 100000 20160 c.loop-stint.clock (before_history c.args.history.now) c.as_slice-stint-items.result.now c.loop-stint.stint-index
     c.loop-stint.invariant.stands (rw c.as_slice-stint-items.ensures h.stints) (omega arith) (omega arith) (omega arith) (carried c.args.history.now)
 
 pub to_monday-requires : goal.to_monday-requires
 to_monday-requires c = let h = is_history c.args.history.now in record {
-  within = rw c.rest-rested.ensures
+  within = rw c.add_off-sunday.ensures
       (within-rested 20160 c.args.history.now.open_off 80000 _ (omega arith)
       (within-read 20160 20160 c.loop-stint.clock (before_history c.args.history.now) c.as_slice-stint-items.result.now c.loop-stint.stint-index
       c.loop-stint.invariant.stands (rw c.as_slice-stint-items.ensures h.stints) (omega arith) (omega arith) (omega arith) (carried c.args.history.now)));
@@ -44,7 +44,7 @@ returns-clause-line c =
     let all : take c.loop-stint.stint-index c.as_slice-stint-items.result.now ≡ c.args.history.now.stints.stints =
     take_all c.loop-stint.stint-index c.as_slice-stint-items.result.now c.loop-stint-test.false ∙ c.as_slice-stint-items.ensures in
     let s = rw all at c.loop-stint.invariant.stands in
-    rw (c.to_monday.ensures, c.rest-rested.ensures)
+    rw (c.to_monday.ensures, c.add_off-sunday.ensures)
     (stands-monday _ (before_history c.args.history.now) _ refl (no_weekly-history c.args.history.now)
     (stands-off_block c.loop-stint.clock (before_history c.args.history.now) c.args.history.now.open_off Plain _ s))
 
