@@ -17,7 +17,6 @@ pub mod LabelLists
 pub mod OneLabel
 pub mod Home
 pub mod OneNode
-pub mod HomePlan
 pub mod OneDriver
 pub mod Trips
 pub mod LeastTrips

@@ -19,13 +19,6 @@ all-two P x y p q zero d lt = p
 all-two P x y p q (suc zero) d lt = q
 all-two P x y p q (suc (suc k)) d lt = absurd (omega (arith, lt))
 
-pub distinct-none : {K : Type 0} (e : K → K → Bool) → IsDistinct e []
-unfolding IsDistinct
-distinct-none e = search rules
-
-pub all-none : {X : Type 0} (P : X → Type 0) → All P []
-all-none P k d lt = absurd (omega (arith, lt))
-
 pub each-one : {X : Type 0} (P : X → Type 0) (x : X) → P x → (n : ℕ) (y : X) → slice_get (x ∷ []) n ≡ Some y → P y
 each-one P x p zero y e = let same : x ≡ y = cc in subst P same p
 each-one P x p (suc n) y e = cc

@@ -1,5 +1,9 @@
 -- Two drivers who are alike.
-use Rattle.std.proofs.Common.{◌≡◌, ℕ, ◌+◌, ◌-ℤ◌, pos, [], ◌∷◌, refl, ap, sym, subst, ◌∙◌, ℤ, ◌≤ℤ◌}
+use Rattle.std.proofs.Common.{◌≡◌, ℕ, ◌+◌, ◌<◌, ◌-ℤ◌, pos, [], ◌∷◌, length, refl, ap, sym, subst, ◌∙◌, ℤ, ◌≤ℤ◌, Option, Some, None, slice_get}
+use Rattle.std.specs.Prelude.{option_map}
+use Rattle.minute_line.specs.declared.lines.History.{History}
+use Rattle.minute_line.specs.Histories.{Fields, fields_of}
+use Rattle.hours_rules.specs.Verdicts.{past_from}
 use Rattle.hours_rules.specs.Rules.{Past, fault}
 use Rattle.hours_rules.specs.Standing.{Stands}
 use Rattle.duty_plan.specs.declared.duties.Duty.{Duty}
@@ -7,9 +11,35 @@ use Rattle.duty_plan.specs.declared.plans.Case.{Case}
 use Rattle.duty_plan.specs.declared.deciding.Pairs.{Pairs}
 use Rattle.duty_plan.specs.declared.pricing.Prices.{Prices}
 use Rattle.duty_plan.specs.PartialDuties.{PartialDuty, line_after, KeepsOfficeThrough}
-use Rattle.duty_plan.specs.Duties.{IsLawfulPartialDuty, open_off_at, capacity_at, cost_after, cents_after, partial_of, orders_of, worth}
-use Rattle.duty_plan.specs.Values.{price_at, IsInside, IsChoice, reduced_cost}
-use Rattle.duty_plan.specs.Twins.{AreTwins, TwinsAreAlike}
+use Rattle.duty_plan.specs.Duties.{IsLawfulPartialDuty, past_or_none, open_or_none, open_off_at, capacity_at, cost_after, cents_after, partial_of, orders_of, worth}
+use Rattle.duty_plan.specs.Values.{pair_at, price_at, IsInside, IsChoice, reduced_cost}
+use Rattle.duty_plan.specs.Twins.{AreAlikeDrivers, AreTwins, TwinsAreAlike}
+
+some-same : {X : Type 0} (a b : X) → Some a ≡ Some b → a ≡ b
+some-same a b h = cc
+
+past-same : (one other : Option History) → option_map fields_of one ≡ option_map fields_of other → past_or_none one ≡ past_or_none other
+past-same None None e = refl
+past-same None (Some b) e = cc
+past-same (Some a) None e = cc
+past-same (Some a) (Some b) e = ap past_from (some-same (fields_of a) (fields_of b) e)
+
+open-same : (one other : Option History) → option_map fields_of one ≡ option_map fields_of other → open_or_none one ≡ open_or_none other
+open-same None None e = refl
+open-same None (Some b) e = cc
+open-same (Some a) None e = cc
+open-same (Some a) (Some b) e = ap (λ (f : Fields). f.open_off) (some-same (fields_of a) (fields_of b) e)
+
+-- drivers who are alike are twins where each order is decided alike for both
+pub alike_twins : (case : Case) (pairs : Pairs) (d e : ℕ) → AreAlikeDrivers case d e →
+    ((order : ℕ) → order < length case.week.orders → pair_at pairs d order ≡ pair_at pairs e order) → AreTwins case pairs d e
+alike_twins case pairs d e alike row = record {
+  capacity = alike.capacity;
+  fee = alike.fee;
+  past = past-same (slice_get case.past d) (slice_get case.past e) alike.history;
+  open_off = open-same (slice_get case.past d) (slice_get case.past e) alike.history;
+  row = row;
+}
 
 pub turned : (case : Case) (pairs : Pairs) (d e : ℕ) → AreTwins case pairs d e → AreTwins case pairs e d
 turned case pairs d e t = record {

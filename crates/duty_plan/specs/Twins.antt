@@ -1,5 +1,6 @@
--- Twins: two drivers who are alike at some pairs, and what is said of both.
-use Rattle.std.specs.Prelude.{◌≡◌, ℕ, ◌<◌, ℤ, List, length}
+-- Drivers who are alike; twins, who are alike at some pairs, and what is said of both.
+use Rattle.std.specs.Prelude.{◌≡◌, ℕ, ◌<◌, ℤ, List, length, option_map, slice_get}
+use Rattle.minute_line.specs.Histories.{fields_of}
 use Rattle.week_book.specs.Weeks.{driver_of}
 use Rattle.duty_plan.specs.declared.duties.Duty.{Duty}
 use Rattle.duty_plan.specs.declared.plans.Case.{Case}
@@ -13,6 +14,12 @@ use Rattle.duty_plan.specs.Labels.{IsLabelOf}
 use Rattle.duty_plan.specs.Values.{pair_at, IsChoice, IsLeast, HasNoDuty}
 use Rattle.duty_plan.specs.LabelLists.{Entry, IsLabelList, MayStore}
 use Rattle.duty_plan.specs.Rounds.{IsAnswer}
+
+-- alike in all but their names: in capacity, fee, and each field of the history
+pub record AreAlikeDrivers (case : Case) (d e : ℕ) : Type 0 where
+  pub capacity : capacity_at case d ≡ capacity_at case e
+  pub fee : fee_or_none (driver_of case.week d) ≡ fee_or_none (driver_of case.week e)
+  pub history : option_map fields_of (slice_get case.past d) ≡ option_map fields_of (slice_get case.past e)
 
 -- alike in capacity, fee, what stands before Monday, and what is decided of each order
 pub record AreTwins (case : Case) (pairs : Pairs) (d e : ℕ) : Type 0 where

@@ -1,10 +1,11 @@
 // What one driver does in a week.
-ghost use Rattle.std.specs.Prelude.{◌≡◌, true};
+ghost use Rattle.std.specs.Prelude.{◌≡◌, true, IfOk};
 ghost use Rattle.minute_line.specs.Marks.{is_working};
 ghost use Rattle.duty_plan.specs.Acts.{mark_of};
 
 use hours_rules::Stay;
-use minute_line::{Many, Mark};
+use minute_line::{Many, Mark, Memory};
+use std::alloc::Global;
 
 /// What a driver does after a stay.
 #[derive(Clone, Copy, PartialEq, Eq, Debug)]
@@ -42,4 +43,12 @@ pub struct Step {
 #[derive(Drop)]
 pub struct Duty {
     pub steps: Many<Step>,
+}
+
+/// The same duty once more.
+pub fn copied_duty(alloc: Global, duty: &Duty) -> Result<Duty, Memory>
+    ensures { IfOk result (λ copy. copy ≡ duty.now) }
+{
+    let steps = Many::from_slice(alloc, duty.steps.as_slice())?;
+    Ok(Duty { steps })
 }

@@ -1,5 +1,4 @@
 // What a driver's steps so far come to.
-ghost use Rattle.std.specs.Prelude.{◌≤◌};
 
 use hours_rules::Clock;
 use std::mem::size_of;

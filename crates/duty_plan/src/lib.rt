@@ -3,6 +3,7 @@
 //! counts from Monday 00:00 UTC, money is in cents, loads are in kg.
 #![tactic(auto)]
 
+mod alike;
 mod checks;
 mod deciding;
 mod duties;
@@ -30,9 +31,10 @@ mod tests;
 #[cfg(test)]
 mod trip_tests;
 
+pub use alike::are_alike;
 pub use checks::{check_duty, check_plan, check_steps};
 pub use deciding::{Pair, Pairs};
-pub use duties::{Act, Duty, Step};
+pub use duties::{Act, Duty, Step, copied_duty};
 pub use faults::{DutyFault, PlanFault};
 pub use labels::Label;
 pub use laws::{

@@ -1,5 +1,5 @@
 // Who prices the drivers of a case, and who plans a week; and the gate that their workers pass.
-ghost use Rattle.std.specs.Prelude.{◌≡◌, ℕ, ◌≤◌, IfOk};
+ghost use Rattle.std.specs.Prelude.{◌≡◌, ℕ, IfOk};
 ghost use Rattle.std.specs.Thread.{IsSync};
 ghost use Rattle.duty_plan.specs.Duties.{IsCase};
 ghost use Rattle.duty_plan.specs.Values.{IsPairs, IsPrices};
@@ -12,7 +12,9 @@ use minute_line::{Many, Memory};
 use std::alloc::Global;
 use std::thread::Threads;
 
-/// What a worker of a round passes before it prices. It lets a test see that workers stand side by side.
+/// What each worker of a round passes before it prices, so that whoever asks for a round sees it under way. `Straight` lets
+/// everybody through; the gate of a run at a terminal counts who passes, and says how far it is; a test's sees that workers stand
+/// side by side.
 pub trait Gate {
     /// Lets the worker of that number through.
     fn pass(&self, worker: u32);

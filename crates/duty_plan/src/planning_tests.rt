@@ -1,5 +1,5 @@
 // The definitions of pricing computed by hand.
-ghost use Rattle.std.specs.Prelude.{◌≡◌, pos, negsuc, length, [], ◌∷◌};
+ghost use Rattle.std.specs.Prelude.{◌≡◌, negsuc, length, [], ◌∷◌};
 ghost use Rattle.week_book.specs.declared.weeks.Week.{Week};
 ghost use Rattle.duty_plan.specs.Duties.{price_of};
 ghost use Rattle.duty_plan.specs.Values.{decided_by, lagrangian};

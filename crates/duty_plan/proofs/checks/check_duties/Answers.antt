@@ -1,4 +1,4 @@
-use Rattle.std.proofs.Common.{sym, refl, arith}
+use Rattle.std.proofs.Common.{sym, arith}
 use Rattle.duty_plan.proofs.Answering.{duties-more, duties-stop, cost-more}
 use Rattle.duty_plan.proofs.checks.check_duties.Goals as goal
 
