@@ -51,6 +51,7 @@ pub fn search<R: Threads + Sync, P: Pricer>(
     requires chunks { P.chunks pricer.old ≡ chunks_for limits.now.labels }
     ensures right { IfOk result (λ outcome. IsRight case.now limits.now outcome) }
     ensures proved { IfOk result (λ outcome. IsWithinReach case.now limits.now → outcome.state ≡ Proved) }
+    ensures chunks { P.chunks pricer.new ≡ P.chunks pricer.old }
 {
     let task = Task {
         rt,
