@@ -1,3 +1,4 @@
 pub mod Lists
 pub mod Moving
 pub mod Entries
+pub mod Publications

@@ -1,9 +1,8 @@
 -- Lists seen through a view of their elements: the first that passes, one put in its place, those that pass, one more.
-use Rattle.std.proofs.Common.{◌≡◌, ℕ, ◌+◌, ◌<◌, ◌≤◌, Bool, true, false, cond, not, refl, ap, ◌∙◌, List, [], ◌∷◌, ◌++◌, map, length, take, get_or, Some, None, option_map, arith, add_comm, add-one, position, Result, Ok, Err, OnOk}
+use Rattle.std.proofs.Common.{◌≡◌, ℕ, ◌+◌, ◌<◌, ◌≤◌, Bool, true, false, cond, not, refl, ap, ◌∙◌, List, [], ◌∷◌, ◌++◌, map, length, Some, None, option_map, arith, add_comm, add-one, position, Result, Ok, Err, OnOk}
 use Rattle.std.specs.Prelude.{find, filter}
 use Rattle.std.specs.List.{position_or_len}
 use Rattle.std.proofs.Math.ListN.{set}
-use Rattle.std.proofs.lemmas.List.{take_more, map-append}
 use borrow.Author.Tests.{ltb-true, ltb-false}
 use lib.Dec.{ltb}
 use Rattle.desk_keeper.specs.Changes.{put}
@@ -68,9 +67,3 @@ put_last p x xs e = end_by p x xs (ltb (position_or_len p xs) (length xs)) refl 
 pub on_ok : {A E : Type 0} {P Q : Type 0} (r : Result A E) → (P → Q) → OnOk r P → OnOk r Q
 on_ok (Ok x) f p = f p
 on_ok (Err e) f p = p
-
--- copies so far, and one more
-pub copied_more : {X Y : Type 0} (f : X → Y) (copies copies' xs : List X) (i : ℕ) (x d : X) → i < length xs → map f copies ≡ map f (take i xs) → copies' ≡ copies ++ x ∷ []
-    → f x ≡ f (get_or xs i d) → map f copies' ≡ map f (take (i + 1) xs)
-copied_more f copies copies' xs i x d fits before after same =
-    rw (after, map-append, before, take_more xs i d fits, map-append) (ap (λ y. map f (take i xs) ++ y ∷ []) same)

@@ -4,3 +4,4 @@ pub mod Entries
 pub mod Changes
 pub mod Calls
 pub mod Memory
+pub mod Laws
