@@ -26,15 +26,18 @@ state_word Proved = codes "proved"
 state_word OpenLabels = codes "labels"
 state_word OpenNodes = codes "nodes"
 
--- the week, and what the search found: cost, bound, state and the number of nodes
-abbrev pub outcome_lines : List ℕ → Outcome → List Line
-outcome_lines monday outcome =
-    (codes "week" ∷ monday ∷ [])
-    ∷ (codes "cost" ∷ decimal outcome.cost ∷ [])
+-- what a search found: cost, bound, state and the number of nodes
+abbrev pub found_lines : Outcome → List Line
+found_lines outcome =
+    (codes "cost" ∷ decimal outcome.cost ∷ [])
     ∷ (codes "bound" ∷ decimal outcome.bound ∷ [])
     ∷ (codes "state" ∷ state_word outcome.state ∷ [])
     ∷ (codes "nodes" ∷ decimal (length outcome.tree) ∷ [])
     ∷ []
+
+-- the week, and what the search found
+abbrev pub outcome_lines : List ℕ → Outcome → List Line
+outcome_lines monday outcome = (codes "week" ∷ monday ∷ []) ∷ found_lines outcome
 
 -- the name of a driver who may be missing
 abbrev pub name_or_none : Option Driver → List ℕ

@@ -15,4 +15,4 @@ mod steps;
 
 pub use exports::export;
 pub use laws::{exports_tell_all, reports_tell_all, reports_tell_findings};
-pub use reports::{body, report};
+pub use reports::{body, report, summary};

@@ -1,8 +1,9 @@
-// The report of an outcome, and its body, which says nothing of a draft.
+// The report of an outcome, its body, which says nothing of a draft, and the summary of a made week.
 ghost use Rattle.std.specs.Prelude.{◌≡◌, ◌++◌, ◌∷◌, [], OnOk, IfOk, length, codes};
 ghost use Rattle.duty_plan.specs.Duties.{IsCase, IsLawfulPlan};
 ghost use Rattle.desk_report.specs.Lines.{with_lines};
-ghost use Rattle.desk_report.specs.Reports.{state_word, outcome_lines, IsBodyOf, IsReportOf};
+ghost use Rattle.desk_report.specs.Reports.{state_word, found_lines, outcome_lines, IsBodyOf, IsReportOf};
+ghost use Rattle.desk_report.specs.Summaries.{summary_text};
 
 use crate::drivers::push_drivers;
 use crate::lines::{push_line, push_number_line};
@@ -11,6 +12,7 @@ use crate::steps::Days;
 use duty_plan::{Case, Outcome, State};
 use minute_line::{Bytes, Many, Memory, week_days};
 use std::alloc::Global;
+use week_book::Week;
 
 /// Adds the line of a state.
 fn push_state(text: &mut Bytes, state: State) -> Result<(), Memory>
@@ -23,15 +25,22 @@ fn push_state(text: &mut Bytes, state: State) -> Result<(), Memory>
     }
 }
 
+/// Adds the lines of what a search found.
+fn push_found(text: &mut Bytes, outcome: &Outcome) -> Result<(), Memory>
+    ensures { OnOk result (text.new ≡ with_lines text.old (found_lines outcome.now)) }
+{
+    push_number_line(text, b"cost", outcome.cost)?;
+    push_number_line(text, b"bound", outcome.bound)?;
+    push_state(text, outcome.state)?;
+    push_number_line(text, b"nodes", outcome.tree.len() as u64)
+}
+
 /// Adds the lines of the week and of what a search found.
 fn push_outcome(text: &mut Bytes, monday: &[u8], outcome: &Outcome) -> Result<(), Memory>
     ensures { OnOk result (text.new ≡ with_lines text.old (outcome_lines monday.now outcome.now)) }
 {
     push_line(text, b"week", monday)?;
-    push_number_line(text, b"cost", outcome.cost)?;
-    push_number_line(text, b"bound", outcome.bound)?;
-    push_state(text, outcome.state)?;
-    push_number_line(text, b"nodes", outcome.tree.len() as u64)
+    push_found(text, outcome)
 }
 
 /// The body of a report, of an outcome whose plan is lawful: the week, what the search found, a block for each driver, and a line for
@@ -59,5 +68,25 @@ pub fn report(alloc: Global, case: &Case, outcome: &Outcome, revision: u64) -> R
 {
     let mut text = body(alloc, case, outcome)?;
     push_number_line(&mut text, b"draft", revision)?;
+    Ok(text)
+}
+
+/// The summary of a week that was made from a seed, as a text of so many rows, and planned: how many drivers and orders it has,
+/// and what the search found.
+pub fn summary(
+    alloc: Global,
+    seed: u64,
+    week: &Week,
+    rows: u64,
+    outcome: &Outcome,
+) -> Result<Bytes, Memory>
+    ensures { IfOk result (λ text. text ≡ summary_text seed week.now rows outcome.now) }
+{
+    let mut text = Many::new(alloc);
+    push_number_line(&mut text, b"made", seed)?;
+    push_number_line(&mut text, b"drivers", week.drivers.len() as u64)?;
+    push_number_line(&mut text, b"orders", week.orders.len() as u64)?;
+    push_number_line(&mut text, b"rows", rows)?;
+    push_found(&mut text, outcome)?;
     Ok(text)
 }
