@@ -1,6 +1,6 @@
 -- The week of a text begins on a Monday of the years 2000 to 2099: on 2099-12-28 at the latest.
 use Rattle.std.proofs.Common.{◌≡◌, refl, ap, arith, ℕ, pos, ◌≤ℤ◌, List, [], ◌∷◌, Option, Some, None, Result, Ok, Err, Bool, true, false, if◌then◌else◌, codes}
-use Rattle.std.specs.Option.{ok_or}
+use Rattle.std.specs.Option.{ok_or, option_map_or}
 use Rattle.std.specs.Str.{bytes_eq, is_utf8}
 use Rattle.jiff_core.specs.Calendar.{day_count}
 use Rattle.jiff_core.proofs.SignedLemmas.{signed_arith}
@@ -12,7 +12,7 @@ use Rattle.week_book.specs.declared.rows.Row.{Row}
 use Rattle.week_book.specs.declared.rows.Row.TheVariants as row
 use Rattle.week_book.specs.declared.weeks.Week.{Week}
 use Rattle.week_book.specs.declared.errors.WeekError.{WeekError}
-use Rattle.week_book.specs.Checking.{fault_of, week_made, unless_faulty, week_of}
+use Rattle.week_book.specs.Checking.{fault_of, week_made, week_of}
 use Rattle.desk_csv.specs.declared.errors.Form.{Form}
 use Rattle.desk_csv.specs.declared.errors.CsvError.{CsvError}
 use Rattle.desk_csv.specs.declared.errors.CsvError.TheVariants as fault
@@ -107,7 +107,7 @@ of_made [] all week begin h = cc h
 of_made (row.Week n monday load night grid ∷ rows) all week begin h = rw (← week_ok _ week h) begin
 of_made (x ∷ rows) all week begin h = cc h
 
-no_fault : (o : Option WeekError) (made : Result Week WeekError) (week : Week) → unless_faulty o made ≡ Ok week → made ≡ Ok week
+no_fault : (o : Option WeekError) (made : Result Week WeekError) (week : Week) → option_map_or Err o made ≡ Ok week → made ≡ Ok week
 no_fault None made week h = h
 no_fault (Some e) made week h = cc h
 

@@ -1,5 +1,5 @@
 // What the fields of a record say: numbers, mark words and dates, each with its fault.
-ghost use Rattle.std.specs.Prelude.{◌≡◌, ℕ, ◌+◌, ◌≤◌, ◌<◌, ◌^◌, length};
+ghost use Rattle.std.specs.Prelude.{◌≡◌, ◌+◌, ◌≤◌, ◌<◌, ◌^◌, length};
 ghost use Rattle.csv.specs.Records.{fields_of};
 ghost use Rattle.minute_line.specs.Answers.{Gives};
 ghost use Rattle.desk_csv.specs.declared.errors.CsvError.TheVariants.{Memory as WantOfMemory};

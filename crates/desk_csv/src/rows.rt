@@ -1,5 +1,5 @@
 // The row that a record says: its word, then the number of its fields, then its fields from the left.
-ghost use Rattle.std.specs.Prelude.{◌≡◌, ℕ, ◌≤◌, ◌<◌, ◌^◌, length, Ok};
+ghost use Rattle.std.specs.Prelude.{◌≤◌, ◌<◌, ◌^◌, length, Ok};
 ghost use Rattle.csv.specs.Records.{fields_of};
 ghost use Rattle.minute_line.specs.Answers.{Gives};
 ghost use Rattle.desk_csv.specs.declared.errors.CsvError.TheVariants.{Memory as WantOfMemory};

@@ -1,4 +1,7 @@
--- Rows of a driver in their ranges. The contracts of the private functions cite this; no public clause does.
+-- Rows of a driver in their ranges. The contracts of the private functions cite this; no public clause does. The bounds are those
+-- of the fields of a week text (a past row's 2,000,000 minutes, a rest's 1,000,000) and of its length (1,048,576 bytes, and no more
+-- rows). With a last row of 2,000,000 minutes what is left of a line stays below the 4,000,000 that are asked where rows are
+-- carried.
 use Rattle.std.specs.Prelude.{◌≡◌, ℕ, ◌≤◌, Bool, true, ◌&&◌, nat_le, pos, ◌≤ℤ◌, List, [], ◌∷◌, length}
 use Rattle.minute_line.specs.declared.lines.TheConstants.{WEEK_MINUTES}
 use Rattle.minute_line.specs.Stints.{all_up_to}

@@ -63,7 +63,7 @@ owed_left h line =
 abbrev pub weeks_later : Owed → ℕ
 weeks_later owed = if nat_eq owed.owed 0 then 0 else owed.due - 1
 
--- n more minutes are few enough to be counted
+-- n more minutes are few enough to be counted; a history and a week have at most 50,400 together, far below this round number
 pub record IsShort (o : Owing) (n : ℕ) : Type 0 where
   pub off : o.off + n ≤ 4000000
   pub at : o.at + n ≤ 4000000

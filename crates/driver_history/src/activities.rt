@@ -1,6 +1,5 @@
 // The rows of one driver.
-ghost use Rattle.std.specs.Prelude.{◌≡◌, ◌<◌, ◌≤◌, ◌^◌, length, map, true, false, IfOk, sum_by};
-ghost use Rattle.minute_line.specs.Stints.{all_up_to};
+ghost use Rattle.std.specs.Prelude.{◌≡◌, ◌<◌, ◌≤◌, ◌^◌, map, true, false, IfOk};
 ghost use Rattle.week_book.specs.Pasts.{Activity as ActivitySaid, past_activity, did_activity, past_activities, did_activities, is_off_word};
 ghost use Rattle.driver_history.specs.Reading.{stint_said, is_weekly_word, late_weekly, second_off, minutes_said, off_in, trailing_off};
 ghost use Rattle.driver_history.specs.Finding.{each_within};

@@ -87,10 +87,12 @@ fn owed_after(history: &History, line: &[Stint]) -> Owed
     week.begun
 }
 
-/// The history after a week that was judged lawful: what is left of the old history and the week's line after the last
-/// weekly rest that ended in the week, or all of it where none ended. The trailing Off is the open run, held at 20,160
-/// minutes; on-duty stints of one mark that stand side by side are joined. What is owed is the debt where that line
-/// begins, due in weeks from the next Monday on.
+/// The history after a week that was judged lawful, or want of memory; the old history is read alone.
+///
+/// It states what is left of the old history's line and the week's, with Off to the week's end, after the last weekly rest that
+/// ended in the week, or all of it where none ended. The Off at its end is the open run, held at 20,160 minutes; on-duty stints of
+/// one mark that stand side by side are joined. What is owed is the debt where that line begins, due in weeks from the next Monday
+/// on. So the next week is judged as after the whole line (`advance_lasts`).
 pub fn advance(alloc: Global, history: &History, line: &Line) -> Result<History, Memory>
     requires total { total_of line.now.stints ≤ WEEK_MINUTES }
     requires lawful { fault (past_of history.now) (week_minutes line.now) ≡ None }
@@ -120,8 +122,8 @@ fn idle_week(alloc: Global, history: &History) -> Result<History, Memory>
     advance(alloc, history, &line)
 }
 
-/// The history after so many weeks in which nothing is done. More than sixteen give what sixteen give, so the work
-/// does not grow past them.
+/// The history after so many weeks in which nothing is done, or want of memory. More than sixteen give what sixteen give, so the
+/// work does not grow past them.
 pub fn idle(alloc: Global, history: &History, weeks: u32) -> Result<History, Memory>
     ensures { IfOk result (λ next. fields_of next ≡ idle_of weeks (fields_of history.now)) }
 {

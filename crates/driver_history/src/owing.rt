@@ -1,7 +1,7 @@
 // The debt of reduced weekly rests along a line of stints (Art. 8(6), 8(7)), where it is due in whole weeks.
-ghost use Rattle.std.specs.Prelude.{◌≡◌, ◌≤◌, fold};
+ghost use Rattle.std.specs.Prelude.{◌≡◌, fold};
 ghost use Rattle.minute_line.specs.Minutes.{total_of};
-ghost use Rattle.driver_history.specs.Owing.{ends_as_weekly, ends_as_paying, ends_as_owing, owed_now, owed_after, owe_stint, owing_from, owing_on_monday, weeks_later, IsShort};
+ghost use Rattle.driver_history.specs.Owing.{ends_as_weekly, ends_as_paying, ends_as_owing, owed_after, owe_stint, owing_from, owing_on_monday, weeks_later, IsShort};
 
 use hours_rules::REGULAR_DAILY_REST;
 use minute_line::{Kind, REGULAR_WEEKLY_REST, Stint, WEEK_MINUTES};

@@ -1,12 +1,12 @@
 // The history and the week's line that a driver's rows say.
-ghost use Rattle.std.specs.Prelude.{◌≡◌, ◌≤◌, ◌<◌, ◌^◌, length, true, option_map, IfOk, IfSome};
+ghost use Rattle.std.specs.Prelude.{◌≡◌, ◌≤◌, ◌<◌, length, option_map, IfOk, IfSome};
 ghost use Rattle.minute_line.specs.Answers.{Gives};
 ghost use Rattle.minute_line.specs.Histories.{fields_of};
 ghost use Rattle.minute_line.specs.Minutes.{total_of};
 ghost use Rattle.week_book.specs.Pasts.{HasPastRows};
 ghost use Rattle.driver_history.specs.declared.errors.HistoryError.TheVariants.{Memory as NoHistoryMemory};
 ghost use Rattle.driver_history.specs.declared.errors.LineError.TheVariants.{Memory as NoLineMemory};
-ghost use Rattle.driver_history.specs.Reading.{minutes_said, sum_fault, past_fault, history_said, by_rows, past_said, line_said};
+ghost use Rattle.driver_history.specs.Reading.{sum_fault, past_fault, history_said, by_rows, past_said, line_said};
 ghost use Rattle.driver_history.specs.Finding.{ArePast, IsRestInRange, IsPastWorkingTime};
 
 use crate::activities::{

@@ -1,6 +1,5 @@
 // What stands before a driver's past rows: the rest and the worked row.
-ghost use Rattle.std.specs.Prelude.{◌≡◌, ◌≤◌, true, slice_get};
-ghost use Rattle.minute_line.specs.Stints.{all_up_to};
+ghost use Rattle.std.specs.Prelude.{◌≡◌, slice_get};
 ghost use Rattle.week_book.specs.Pasts.{Rested, PastWorkingTime, rest_said, past_working_time, rests_of, past_working_times_of};
 ghost use Rattle.driver_history.specs.Reading.{minutes_needed};
 ghost use Rattle.driver_history.specs.Finding.{IsRestInRange, IsPastWorkingTime};

@@ -1,5 +1,5 @@
 // Rows with the answers that a person worked out, and the week of one driver, whose history text is known.
-ghost use Rattle.std.specs.Prelude.{◌≡◌, ◌+◌, ◌≤◌, length, IfOk};
+ghost use Rattle.std.specs.Prelude.{◌+◌, ◌≤◌, length, IfOk};
 ghost use Rattle.minute_line.specs.Minutes.{total_of};
 ghost use Rattle.week_book.specs.Pasts.{HasPastRows};
 

@@ -3,7 +3,7 @@ use Rattle.std.proofs.Common.{◌≡◌, ℕ, ◌+◌, ◌≤◌, Bool, true, fa
 use Rattle.std.proofs.lemmas.Bool.{false≢true, leb-true, and_parts, and_from}
 use Rattle.std.proofs.lemmas.List.Recursion.{is_count_by}
 use Rattle.std.specs.List.{list_all, cons_option}
-use Rattle.std.specs.Option.{is_some, option_or}
+use Rattle.std.specs.Option.{is_some, option_or, option_map_or}
 use Rattle.week_book.specs.declared.rows.Row.{Row}
 use Rattle.week_book.specs.declared.rows.Row.TheVariants as row
 use Rattle.week_book.specs.declared.errors.What.{What}
@@ -17,7 +17,7 @@ use Rattle.week_book.specs.Keys.{double_fault}
 use Rattle.week_book.specs.Numbers.{place_in, place_names, driver_names, unknown_fault}
 use Rattle.week_book.specs.Texts.{each_row}
 use Rattle.week_book.specs.Driven.{driven, did_fault}
-use Rattle.week_book.specs.Checking.{is_of, limit_of, too_many, count_fault, counts_fault, depot_fault, fault_of, unless_faulty}
+use Rattle.week_book.specs.Checking.{is_of, limit_of, too_many, count_fault, counts_fault, depot_fault, fault_of}
 
 -- neither of two
 pub neither : {A : Type 0} (a b : Option A) → option_or a b ≡ None → (a ≡ None) × (b ≡ None)
@@ -131,11 +131,8 @@ kept before (r ∷ rs) none =
 
 -- the first fault is what the text is refused by
 pub refused : {A : Type 0} (fault : Option WeekError) (made : Result A WeekError) (e : WeekError) → fault ≡ Some e
-    → unless_faulty fault made ≡ Err e
+    → option_map_or Err fault made ≡ Err e
 refused fault made e is = rw is refl
-
-pub accepted : {A : Type 0} (fault : Option WeekError) (made : Result A WeekError) → fault ≡ None → unless_faulty fault made ≡ made
-accepted fault made none = rw none refl
 
 pub on_ok : {T E : Type 0} (r : Result T E) (P : Type 0) → P → OnOk r P
 on_ok (Ok x) P p = p

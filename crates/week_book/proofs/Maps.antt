@@ -3,12 +3,11 @@ use Rattle.std.proofs.Common.{◌≡◌, ◌∙◌, ℕ, zero, suc, ◌+◌, ◌
 use Rattle.std.proofs.Math.Bool.{or-false}
 use Rattle.std.proofs.lemmas.Bool.{false≢true}
 use Rattle.std.proofs.lemmas.List.Folds.{list_any-append}
-use Rattle.std.specs.List.{list_any}
+use Rattle.std.specs.List.{list_any, position_from}
 use Rattle.std.specs.Option.{is_some, option_or}
 use Rattle.std.specs.Map.{update}
 use Rattle.std.specs.Str.{bytes_eq}
 use Rattle.std.specs.Cmp.Lexicographic.{bytes_decides, nat_list_eq_equiv}
-use Rattle.week_book.specs.Names.{number_from}
 
 -- a test of one more item
 pub any_more : {A : Type 0} (p : A → Bool) (xs : List A) (x : A) → list_any p (xs ++ x ∷ []) ≡ (list_any p xs || p x)
@@ -45,11 +44,11 @@ number_case true n k x y d h = refl
 number_case false n k x y d h = h
 
 pub number_more : (n k : ℕ) (ps : List (List ℕ)) (p q : List ℕ) → k ≡ n + length ps
-    → number_from n (ps ++ p ∷ []) q ≡ option_or (number_from n ps q) (cond (bytes_eq q p) (Some k) None)
+    → position_from (bytes_eq q) n (ps ++ p ∷ []) ≡ option_or (position_from (bytes_eq q) n ps) (cond (bytes_eq q p) (Some k) None)
 number_more n k [] p q e = let f : n ≡ k = omega (arith, e) in rw f refl
 number_more n k (r ∷ ps) p q e = number_case (bytes_eq q r) n k _ _ _ (number_more (n + 1) k ps p q (omega (arith, e)))
 
-pub number_among : (n : ℕ) (names : List (List ℕ)) (q : List ℕ) → is_some (number_from n names q) ≡ list_any (bytes_eq q) names
+pub number_among : (n : ℕ) (names : List (List ℕ)) (q : List ℕ) → is_some (position_from (bytes_eq q) n names) ≡ list_any (bytes_eq q) names
 number_among n [] q = refl
 number_among n (p ∷ ps) q = among_case (bytes_eq q p) n _ _ (number_among (n + 1) ps q)
   where
@@ -58,7 +57,7 @@ number_among n (p ∷ ps) q = among_case (bytes_eq q p) n _ _ (number_among (n +
     among_case false n o b h = h
 
 -- a number is below how many names there are
-pub number_below : (n : ℕ) (names : List (List ℕ)) (q : List ℕ) (k : ℕ) → number_from n names q ≡ Some k → k < n + length names
+pub number_below : (n : ℕ) (names : List (List ℕ)) (q : List ℕ) (k : ℕ) → position_from (bytes_eq q) n names ≡ Some k → k < n + length names
 number_below n [] q k is = absurd cc
 number_below n (p ∷ ps) q k is = below_case (bytes_eq q p) n k (length ps) _ is (number_below (n + 1) ps q k)
   where
@@ -66,7 +65,7 @@ number_below n (p ∷ ps) q k is = below_case (bytes_eq q p) n k (length ps) _ i
     below_case true n k m o is later = let same : n ≡ k = cc in omega arith
     below_case false n k m o is later = let less : k < n + 1 + m = later is in omega arith
 
-number_least : (n : ℕ) (names : List (List ℕ)) (q : List ℕ) (k : ℕ) → number_from n names q ≡ Some k → n ≤ k
+number_least : (n : ℕ) (names : List (List ℕ)) (q : List ℕ) (k : ℕ) → position_from (bytes_eq q) n names ≡ Some k → n ≤ k
 number_least n [] q k is = absurd cc
 number_least n (p ∷ ps) q k is = least_case (bytes_eq q p) n k _ is (number_least (n + 1) ps q k)
   where
@@ -83,16 +82,16 @@ is_later true n k m o is e = let same : n ≡ m = cc in absurd (omega arith)
 is_later false n k m o is e = is
 
 -- the name that has a number stands there among the names
-pub number_at : (n k : ℕ) (names : List (List ℕ)) (q : List ℕ) (m : ℕ) → number_from n names q ≡ Some m → m ≡ n + k → get_or names k [] ≡ q
+pub number_at : (n k : ℕ) (names : List (List ℕ)) (q : List ℕ) (m : ℕ) → position_from (bytes_eq q) n names ≡ Some m → m ≡ n + k → get_or names k [] ≡ q
 number_at n k [] q m is e = absurd cc
 number_at n zero (p ∷ ps) q m is e = sym ((bytes_decides q p).0 (is_first (bytes_eq q p) n m _ is e (number_least (n + 1) ps q m)))
 number_at n (suc k) (p ∷ ps) q m is e = number_at (n + 1) k ps q m (is_later (bytes_eq q p) n k m _ is e) (omega arith)
 
 -- two names with one number are the same
-pub number_same : (names : List (List ℕ)) (p q : List ℕ) (k : ℕ) → number_from 0 names p ≡ Some k → number_from 0 names q ≡ Some k
+pub number_same : (names : List (List ℕ)) (p q : List ℕ) (k : ℕ) → position_from (bytes_eq p) 0 names ≡ Some k → position_from (bytes_eq q) 0 names ≡ Some k
     → bytes_eq p q ≡ true
 number_same names p q k is_p is_q =
     (bytes_decides p q).1 (sym (number_at 0 k names p k is_p (omega arith)) ∙ number_at 0 k names q k is_q (omega arith))
 
-pub number_in : (names : List (List ℕ)) (q : List ℕ) (k : ℕ) → number_from 0 names q ≡ Some k → k < length names
+pub number_in : (names : List (List ℕ)) (q : List ℕ) (k : ℕ) → position_from (bytes_eq q) 0 names ≡ Some k → k < length names
 number_in names q k is = omega (arith, number_below 0 names q k is)

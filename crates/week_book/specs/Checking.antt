@@ -1,6 +1,7 @@
 -- The week of a week text, or the first fault of the text.
 use Rattle.std.specs.Prelude.{ℕ, Bool, true, false, if◌then◌else◌, nat_le, Option, Some, None, Result, Ok, Err, List, [], ◌∷◌, count_by, filter_map}
 use Rattle.std.specs.List.{list_any}
+use Rattle.std.specs.Option.{option_map_or}
 use Rattle.week_book.specs.declared.rows.Row.{Row}
 use Rattle.week_book.specs.declared.rows.Row.TheVariants as row
 use Rattle.week_book.specs.declared.weeks.Week.{Week}
@@ -64,11 +65,6 @@ week_made rows (row.Week n monday load night grid ∷ rs) = Ok (record {
 })
 week_made rows _ = Err NoDepot
 
--- the first fault of the rows, or else what they make
-abbrev pub unless_faulty : {A : Type 0} → Option WeekError → Result A WeekError → Result A WeekError
-unless_faulty None made = made
-unless_faulty (Some fault) made = Err fault
-
 -- the week of a week text, or its first fault
 abbrev pub week_of : List Row → Result Week WeekError
-week_of rows = unless_faulty (fault_of rows) (week_made rows rows)
+week_of rows = option_map_or Err (fault_of rows) (week_made rows rows)

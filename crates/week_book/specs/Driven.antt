@@ -1,5 +1,6 @@
 -- The drivers of a check text, or the first fault of the text.
-use Rattle.std.specs.Prelude.{ℕ, if◌then◌else◌, Option, Result, Ok, List, [], ◌∷◌, ◌++◌, length, fold}
+use Rattle.std.specs.Prelude.{ℕ, if◌then◌else◌, Option, Result, Ok, Err, List, [], ◌∷◌, ◌++◌, length, fold}
+use Rattle.std.specs.Option.{option_map_or}
 use Rattle.week_book.specs.declared.rows.Row.{Row}
 use Rattle.week_book.specs.declared.rows.Row.TheVariants as row
 use Rattle.week_book.specs.declared.errors.What.TheVariants.{Drivers}
@@ -9,7 +10,7 @@ use Rattle.week_book.specs.Faults.{first_tried}
 use Rattle.week_book.specs.Ranges.{range_fault}
 use Rattle.week_book.specs.Keys.{double_fault}
 use Rattle.week_book.specs.Numbers.{unknown_fault}
-use Rattle.week_book.specs.Checking.{too_many, unless_faulty}
+use Rattle.week_book.specs.Checking.{too_many}
 
 -- one more name, unless it is there
 abbrev pub with_name : List (List ℕ) → List ℕ → List (List ℕ)
@@ -31,4 +32,4 @@ did_fault rows = first_tried (too_many Drivers (length (driven rows)) ∷ range_
 
 -- the drivers of a check text, or its first fault
 abbrev pub did_of : List Row → Result (List (List ℕ)) WeekError
-did_of rows = unless_faulty (did_fault rows) (Ok (driven rows))
+did_of rows = option_map_or Err (did_fault rows) (Ok (driven rows))

@@ -1,6 +1,6 @@
 -- What a name is, and where one stands among others.
-use Rattle.std.specs.Prelude.{ℕ, ◌+◌, Bool, not, ◌&&◌, ◌||◌, ◌==◌, if◌then◌else◌, nat_le, Option, Some, None, List, [], ◌∷◌, length}
-use Rattle.std.specs.List.{list_any, list_all}
+use Rattle.std.specs.Prelude.{ℕ, Bool, not, ◌&&◌, ◌||◌, ◌==◌, nat_le, Option, List, length}
+use Rattle.std.specs.List.{list_any, list_all, position_from}
 use Rattle.std.specs.Str.{bytes_eq}
 
 -- an ASCII character from `!` to `~`, without comma and double quote
@@ -15,11 +15,6 @@ is_name name = (nat_le 1 (length name) && nat_le (length name) 32) && list_all i
 abbrev pub is_among : List (List ℕ) → List ℕ → Bool
 is_among names name = list_any (bytes_eq name) names
 
--- the number of a name: its place among the names, which count from the number given
-abbrev pub number_from : ℕ → List (List ℕ) → List ℕ → Option ℕ
-number_from n [] name = None
-number_from n (first ∷ others) name = if bytes_eq name first then Some n else number_from (n + 1) others name
-
--- the number of a name, from 0
+-- the number of a name: the place, from 0, of the first that is the same among the names
 abbrev pub number_of : List (List ℕ) → List ℕ → Option ℕ
-number_of names name = number_from 0 names name
+number_of names name = position_from (bytes_eq name) 0 names

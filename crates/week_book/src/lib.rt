@@ -5,6 +5,7 @@
 mod checking;
 mod driven;
 mod errors;
+mod fields;
 mod keys;
 mod laws;
 mod name_indexes;

@@ -1,10 +1,10 @@
 // The names that no row defines, and the tables of a week, with numbers for names.
-ghost use Rattle.std.specs.Prelude.{◌≡◌, true, ◌≤◌, length, filter_map, IfOk, nat_abs};
+ghost use Rattle.std.specs.Prelude.{◌≡◌, true, ◌≤◌, length, filter_map, IfOk};
 ghost use Rattle.week_book.specs.Faults.{Passes};
 ghost use Rattle.week_book.specs.Ranges.{keeps_ranges};
 ghost use Rattle.week_book.specs.Names.{is_among};
 ghost use Rattle.week_book.specs.Texts.{each_row};
-ghost use Rattle.week_book.specs.Numbers.{place_in, driver_in, has_known_places, numbered, leg_in, order_in, place_names, drivers_of, driver_names, unknown_name, unknown_of, unknown_fault};
+ghost use Rattle.week_book.specs.Numbers.{driver_in, has_known_places, numbered, leg_in, order_in, place_names, drivers_of, driver_names, unknown_name, unknown_of, unknown_fault};
 
 use crate::errors::WeekError;
 use crate::name_indexes::NameIndex;

@@ -1,5 +1,5 @@
 // The first field that lies outside its range.
-ghost use Rattle.std.specs.Prelude.{◌≡◌, false, true, ◌<◌, ◌^◌, [], ◌∷◌, ◌++◌, length, map, nat_le, IfOk, option_to_list};
+ghost use Rattle.std.specs.Prelude.{◌≡◌, false, true, ◌<◌, [], ◌∷◌, ◌++◌, map, nat_le, IfOk, option_to_list};
 ghost use Rattle.minute_line.specs.declared.lines.TheConstants.{WEEK_MINUTES};
 ghost use Rattle.week_book.specs.Names.{is_name};
 ghost use Rattle.week_book.specs.Faults.{row_number, Passes};
@@ -9,75 +9,15 @@ ghost use Rattle.week_book.specs.Texts.{is_week, is_checked};
 ghost use Rattle.week_book.specs.declared.errors.What.TheVariants.{Orders};
 
 use crate::errors::WeekError;
+use crate::fields::{
+    first_outside, is_close_of, is_did_span, is_grid, is_other_name, is_week_minute, is_within,
+    weeks_outside,
+};
 use crate::name_indexes::NameIndex;
 use crate::names::is_name;
 use crate::rows::{Row, Word};
 use minute_line::WEEK_MINUTES;
 use std::alloc::{AllocError, Global};
-
-fn is_within(first: u64, last: u64, n: u64) -> bool
-    ensures { result ≡ is_within first last n }
-{
-    first <= n && n <= last
-}
-
-fn is_week_minute(minute: i64) -> bool
-    ensures { result ≡ is_week_minute minute }
-{
-    0 <= minute && minute <= 10_079
-}
-
-fn is_close_of(opens: i64, closes: i64) -> bool
-    ensures { result ≡ is_close_of opens closes }
-{
-    is_week_minute(closes) && opens <= closes
-}
-
-fn is_grid(grid: u64) -> bool
-    ensures { result ≡ is_grid grid }
-{
-    grid == 15 || (grid == 30 || grid == 60)
-}
-
-fn is_other_name(from: &[u8], to: &[u8]) -> bool
-    ensures { result ≡ is_other_name from.now to.now }
-{
-    is_name(to) && from != to
-}
-
-fn is_did_span(begun: bool, word: Word, minutes: u64) -> bool
-    ensures { result ≡ is_did_span begun word minutes }
-{
-    minutes <= WEEK_MINUTES as u64 && (1 <= minutes || (word.is_off() && !begun))
-}
-
-/// The first field that is outside its range, of the fields after a row's word.
-fn first_outside(row: u32, fields: &[bool]) -> Option<WeekError>
-    requires { length fields.now < 2 ^ 16 }
-    ensures { result ≡ first_outside row 2 fields.now }
-{
-    let mut field = 2;
-    for is_in in fields {
-        if !*is_in {
-            return Some(WeekError::Range(row, field));
-        }
-        field += 1;
-    }
-    None
-}
-
-fn weeks_outside(row: u32, weeks: &[u64; 16]) -> Option<WeekError>
-    ensures { result ≡ first_outside row 4 (map (λ m. nat_le m WEEK_MINUTES) weeks.now) }
-{
-    let mut field = 4;
-    for week in weeks {
-        if *week > WEEK_MINUTES as u64 {
-            return Some(WeekError::Range(row, field));
-        }
-        field += 1;
-    }
-    None
-}
 
 fn order_outside(row: &Row) -> Option<WeekError>
     ensures { is_of Orders row.now ≡ true → result ≡ first_outside (row_number row.now) 2 (fields_in_range false row.now) }

@@ -1,6 +1,6 @@
 use Rattle.std.proofs.Common.{◌≡◌, ◌+◌, drop}
 use Rattle.week_book.specs.Ranges.{first_outside}
-use Rattle.week_book.proofs.ranges.first_outside.Given as goal
+use Rattle.week_book.proofs.fields.first_outside.Given as goal
 
 abbrev pub invariant-loop-is_in : goal.invariant-loop-is_in
 invariant-loop-is_in l = record {

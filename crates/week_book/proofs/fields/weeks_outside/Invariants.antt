@@ -1,6 +1,6 @@
 use Rattle.std.proofs.Common.{◌≡◌, ◌+◌, map, nat_le, drop}
 use Rattle.week_book.specs.Ranges.{first_outside}
-use Rattle.week_book.proofs.ranges.weeks_outside.Given as goal
+use Rattle.week_book.proofs.fields.weeks_outside.Given as goal
 
 abbrev pub invariant-loop-week : goal.invariant-loop-week
 invariant-loop-week l = record {
