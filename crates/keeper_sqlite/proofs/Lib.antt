@@ -1,1 +1,6 @@
 mod Named
+mod Keeping
+mod Reading
+mod Queries
+mod Failing
+mod Stored

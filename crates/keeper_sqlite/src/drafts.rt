@@ -3,8 +3,11 @@ ghost use Rattle.std.specs.Prelude.{◌≡◌, false, map, IfOk};
 ghost use Rattle.std.specs.List.{list_any};
 ghost use Rattle.std.specs.Str.{bytes_eq};
 ghost use Rattle.desk_keeper.specs.Tables.{driver_fields, AreNamedOnce};
+ghost use Rattle.sqlite.specs.Held.{state};
+ghost use Rattle.keeper_sqlite.specs.Commits.{CommitsNothing, KeepsCommitted};
 
 use crate::causes::Cause;
+use crate::statements::{read, write};
 use crate::values::{blob_at, past_of, revision_at, seen_at, text_at};
 use desk_keeper::{Draft, DraftDriver, Kept};
 use minute_line::{Bytes, Many, Memory, Monday, Name, history_text};
@@ -81,9 +84,11 @@ fn drivers_in<S: Alter>(
     monday: Monday,
 ) -> Result<Many<DraftDriver>, Cause>
     ensures same { tx.new.conn.ghost_name ≡ tx.old.conn.ghost_name }
+    ensures kept { CommitsNothing (state S.Store tx.old.conn.now) (state S.Store tx.new.conn.now) }
     ensures once { IfOk result (λ drivers. AreNamedOnce (map driver_fields drivers)) }
 {
-    let rows = tx.query_all(
+    let rows = read(
+        tx,
         "SELECT driver, seen_monday, seen_past, next_past FROM draft_drivers WHERE monday = ?1 ORDER BY place",
         &[ValueRef::Int(monday.day as i64)],
     )?;
@@ -91,14 +96,17 @@ fn drivers_in<S: Alter>(
 }
 
 /// The draft of a week, within a transaction.
+#[tactic(auto, using(crate::proofs::Keeping::then, crate::proofs::Keeping::nothing))]
 fn draft_in<S: Alter>(
     tx: &mut Transaction<'_, S>,
     alloc: Global,
     monday: Monday,
 ) -> Result<Option<Draft>, Cause>
     ensures same { tx.new.conn.ghost_name ≡ tx.old.conn.ghost_name }
+    ensures kept { CommitsNothing (state S.Store tx.old.conn.now) (state S.Store tx.new.conn.now) }
 {
-    let rows = tx.query_all(
+    let rows = read(
+        tx,
         "SELECT revision, report, export FROM drafts WHERE monday = ?1",
         &[ValueRef::Int(monday.day as i64)],
     )?;
@@ -132,19 +140,22 @@ pub(crate) fn remove_draft<S: Alter>(
     monday: Monday,
 ) -> Result<(), Cause>
     ensures same { tx.new.conn.ghost_name ≡ tx.old.conn.ghost_name }
+    ensures kept { CommitsNothing (state S.Store tx.old.conn.now) (state S.Store tx.new.conn.now) }
 {
-    tx.execute(
+    write(
+        tx,
         "DELETE FROM drafts WHERE monday = ?1",
         &[ValueRef::Int(monday.day as i64)],
-    )?;
-    Ok(())
+    )
 }
 
 /// Adds the row of a draft.
 fn insert_draft<S: Alter>(tx: &mut Transaction<'_, S>, draft: &Draft) -> Result<(), Cause>
     ensures same { tx.new.conn.ghost_name ≡ tx.old.conn.ghost_name }
+    ensures kept { CommitsNothing (state S.Store tx.old.conn.now) (state S.Store tx.new.conn.now) }
 {
-    tx.execute(
+    write(
+        tx,
         "INSERT INTO drafts (monday, revision, report, export) VALUES (?1, ?2, ?3, ?4)",
         &[
             ValueRef::Int(draft.monday.day as i64),
@@ -152,8 +163,7 @@ fn insert_draft<S: Alter>(tx: &mut Transaction<'_, S>, draft: &Draft) -> Result<
             ValueRef::Blob(draft.report.as_slice()),
             ValueRef::Blob(draft.export.as_slice()),
         ],
-    )?;
-    Ok(())
+    )
 }
 
 /// The text of a history, if there is one.
@@ -181,6 +191,7 @@ fn text_or_null(text: &Option<Bytes>) -> ValueRef<'_> {
 }
 
 /// Adds the row of a driver at a place of a draft.
+#[tactic(auto, using(crate::proofs::Keeping::then, crate::proofs::Keeping::nothing))]
 fn insert_driver<S: Alter>(
     tx: &mut Transaction<'_, S>,
     alloc: Global,
@@ -189,10 +200,12 @@ fn insert_driver<S: Alter>(
     driver: &DraftDriver,
 ) -> Result<(), Cause>
     ensures same { tx.new.conn.ghost_name ≡ tx.old.conn.ghost_name }
+    ensures kept { CommitsNothing (state S.Store tx.old.conn.now) (state S.Store tx.new.conn.now) }
 {
     let seen = seen_text(alloc, &driver.seen)?;
     let next = history_text(alloc, &driver.next)?;
-    tx.execute(
+    write(
+        tx,
         "INSERT INTO draft_drivers (monday, place, driver, seen_monday, seen_past, next_past)
          VALUES (?1, ?2, ?3, ?4, ?5, ?6)",
         &[
@@ -203,17 +216,18 @@ fn insert_driver<S: Alter>(
             text_or_null(&seen),
             ValueRef::Text(next.as_slice()),
         ],
-    )?;
-    Ok(())
+    )
 }
 
 /// Adds the rows of a draft's drivers, in their order.
+#[tactic(auto, using(crate::proofs::Keeping::then, crate::proofs::Keeping::nothing))]
 fn insert_drivers<S: Alter>(
     tx: &mut Transaction<'_, S>,
     alloc: Global,
     draft: &Draft,
 ) -> Result<(), Cause>
     ensures same { tx.new.conn.ghost_name ≡ tx.old.conn.ghost_name }
+    ensures kept { CommitsNothing (state S.Store tx.old.conn.now) (state S.Store tx.new.conn.now) }
 {
     let mut place: i64 = 0;
     for driver in draft.drivers.as_slice() {
@@ -223,7 +237,22 @@ fn insert_drivers<S: Alter>(
     Ok(())
 }
 
-/// Keeps a draft in the place of its week's last one, as one transaction.
+/// Keeps a draft in the place of its week's last one, within a transaction.
+#[tactic(auto, using(crate::proofs::Keeping::then, crate::proofs::Keeping::nothing))]
+fn write_draft<S: Alter>(
+    tx: &mut Transaction<'_, S>,
+    alloc: Global,
+    draft: &Draft,
+) -> Result<(), Cause>
+    ensures same { tx.new.conn.ghost_name ≡ tx.old.conn.ghost_name }
+    ensures kept { CommitsNothing (state S.Store tx.old.conn.now) (state S.Store tx.new.conn.now) }
+{
+    remove_draft(tx, draft.monday)?;
+    insert_draft(tx, draft)?;
+    insert_drivers(tx, alloc, draft)
+}
+
+/// The same, as one transaction.
 pub(crate) fn put_draft<S: Alter>(
     connection: &mut Connection<S>,
     alloc: Global,
@@ -231,11 +260,10 @@ pub(crate) fn put_draft<S: Alter>(
 ) -> Result<(), Cause>
     requires idle { connection.old.in_transaction ≡ false }
     ensures idle { connection.new.in_transaction ≡ false }
+    ensures kept { KeepsCommitted result (state S.Store connection.old) (state S.Store connection.new) }
 {
     let mut tx = connection.transaction();
-    remove_draft(&mut tx, draft.monday)?;
-    insert_draft(&mut tx, draft)?;
-    insert_drivers(&mut tx, alloc, draft)?;
+    write_draft(&mut tx, alloc, draft)?;
     tx.commit()?;
     Ok(())
 }

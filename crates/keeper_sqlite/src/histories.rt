@@ -1,7 +1,10 @@
 // The table of drivers' histories: what is kept of a driver, one row for each.
-ghost use Rattle.std.specs.Prelude.{◌≡◌, ◌≤ℤ◌, pos, false};
+ghost use Rattle.std.specs.Prelude.{◌≡◌, false};
+ghost use Rattle.sqlite.specs.Held.{state};
+ghost use Rattle.keeper_sqlite.specs.Commits.{CommitsNothing};
 
 use crate::causes::Cause;
+use crate::statements::write;
 use crate::values::kept_at;
 use desk_keeper::{DraftDriver, Kept};
 use minute_line::{Monday, Name, history_text};
@@ -29,6 +32,7 @@ pub(crate) fn history_of<S: Alter>(
 }
 
 /// Keeps the history after a planned week, in the place of what was kept of the driver.
+#[tactic(auto, using(crate::proofs::Keeping::then, crate::proofs::Keeping::nothing))]
 pub(crate) fn put_history<S: Alter>(
     tx: &mut Transaction<'_, S>,
     alloc: Global,
@@ -36,9 +40,11 @@ pub(crate) fn put_history<S: Alter>(
     driver: &DraftDriver,
 ) -> Result<(), Cause>
     ensures same { tx.new.conn.ghost_name ≡ tx.old.conn.ghost_name }
+    ensures kept { CommitsNothing (state S.Store tx.old.conn.now) (state S.Store tx.new.conn.now) }
 {
     let past = history_text(alloc, &driver.next)?;
-    tx.execute(
+    write(
+        tx,
         "INSERT INTO histories (driver, monday, past) VALUES (?1, ?2, ?3)
          ON CONFLICT (driver) DO UPDATE SET monday = excluded.monday, past = excluded.past",
         &[
@@ -46,11 +52,11 @@ pub(crate) fn put_history<S: Alter>(
             ValueRef::Int(monday.day as i64),
             ValueRef::Text(past.as_slice()),
         ],
-    )?;
-    Ok(())
+    )
 }
 
 /// Keeps the histories of these drivers after a planned week, up to that Monday.
+#[tactic(auto, using(crate::proofs::Keeping::then, crate::proofs::Keeping::nothing))]
 pub(crate) fn put_histories<S: Alter>(
     tx: &mut Transaction<'_, S>,
     alloc: Global,
@@ -58,6 +64,7 @@ pub(crate) fn put_histories<S: Alter>(
     drivers: &[DraftDriver],
 ) -> Result<(), Cause>
     ensures same { tx.new.conn.ghost_name ≡ tx.old.conn.ghost_name }
+    ensures kept { CommitsNothing (state S.Store tx.old.conn.now) (state S.Store tx.new.conn.now) }
 {
     for driver in drivers {
         put_history(tx, alloc, monday, driver)?;

@@ -1,9 +1,12 @@
 // The table of issues, in the order of their receipts.
 ghost use Rattle.std.specs.Prelude.{◌≡◌, ◌<◌, ◌^◌, false, IfOk};
+ghost use Rattle.sqlite.specs.Held.{state};
+ghost use Rattle.keeper_sqlite.specs.Commits.{CommitsNothing, KeepsCommitted};
 
 use crate::causes::Cause;
 use crate::drafts::remove_draft;
 use crate::histories::put_histories;
+use crate::statements::{read, write};
 use crate::values::{blob_at, number_at, revision_at};
 use desk_keeper::{Draft, Issue, next_monday};
 use minute_line::Monday;
@@ -48,8 +51,10 @@ pub(crate) fn issue_of<S: Alter>(
 /// The greatest receipt, or 0 where there is no issue.
 fn greatest_receipt<S: Alter>(tx: &mut Transaction<'_, S>) -> Result<i64, Cause>
     ensures same { tx.new.conn.ghost_name ≡ tx.old.conn.ghost_name }
+    ensures kept { CommitsNothing (state S.Store tx.old.conn.now) (state S.Store tx.new.conn.now) }
 {
-    let rows = tx.query_all(
+    let rows = read(
+        tx,
         "SELECT receipt FROM issues ORDER BY receipt DESC LIMIT 1",
         &[],
     )?;
@@ -77,8 +82,10 @@ fn insert_issue<S: Alter>(
 ) -> Result<(), Cause>
     requires within { receipt < 2 ^ 63 }
     ensures same { tx.new.conn.ghost_name ≡ tx.old.conn.ghost_name }
+    ensures kept { CommitsNothing (state S.Store tx.old.conn.now) (state S.Store tx.new.conn.now) }
 {
-    tx.execute(
+    write(
+        tx,
         "INSERT INTO issues (receipt, monday, revision, report, export) VALUES (?1, ?2, ?3, ?4, ?5)",
         &[
             ValueRef::Int(receipt as i64),
@@ -87,11 +94,28 @@ fn insert_issue<S: Alter>(
             ValueRef::Blob(draft.report.as_slice()),
             ValueRef::Blob(draft.export.as_slice()),
         ],
-    )?;
-    Ok(())
+    )
 }
 
-/// Publishes a draft, as one transaction, and gives the receipt: it is removed, and its drivers' histories move on.
+/// Publishes a draft within a transaction, and gives the receipt: it is removed, and its drivers' histories move on.
+#[tactic(auto, using(crate::proofs::Keeping::then, crate::proofs::Keeping::nothing))]
+fn write_issue<S: Alter>(
+    tx: &mut Transaction<'_, S>,
+    alloc: Global,
+    draft: &Draft,
+) -> Result<u64, Cause>
+    ensures same { tx.new.conn.ghost_name ≡ tx.old.conn.ghost_name }
+    ensures kept { CommitsNothing (state S.Store tx.old.conn.now) (state S.Store tx.new.conn.now) }
+{
+    let receipt = receipt_after(greatest_receipt(tx)?)?;
+    insert_issue(tx, receipt, draft)?;
+    let monday = next_monday(draft.monday);
+    put_histories(tx, alloc, monday, draft.drivers.as_slice())?;
+    remove_draft(tx, draft.monday)?;
+    Ok(receipt)
+}
+
+/// The same, as one transaction.
 pub(crate) fn publish<S: Alter>(
     connection: &mut Connection<S>,
     alloc: Global,
@@ -99,17 +123,10 @@ pub(crate) fn publish<S: Alter>(
 ) -> Result<u64, Cause>
     requires idle { connection.old.in_transaction ≡ false }
     ensures idle { connection.new.in_transaction ≡ false }
+    ensures kept { KeepsCommitted result (state S.Store connection.old) (state S.Store connection.new) }
 {
     let mut tx = connection.transaction();
-    let receipt = receipt_after(greatest_receipt(&mut tx)?)?;
-    insert_issue(&mut tx, receipt, draft)?;
-    put_histories(
-        &mut tx,
-        alloc,
-        next_monday(draft.monday),
-        draft.drivers.as_slice(),
-    )?;
-    remove_draft(&mut tx, draft.monday)?;
+    let receipt = write_issue(&mut tx, alloc, draft)?;
     tx.commit()?;
     Ok(receipt)
 }

@@ -1,7 +1,12 @@
 // The keeper over a database. It tells no tables, and counts its faults.
-ghost use Rattle.std.specs.Prelude.{◌≡◌, ◌≤◌, false};
-ghost use Rattle.desk_io.specs.Device.{counted_up};
+ghost use Rattle.std.specs.Prelude.{◌≡◌, ◌≤◌, false, None};
+ghost use Rattle.desk_keeper.specs.Records.{draft_fields};
+ghost use Rattle.desk_keeper.specs.Entries.{next_receipt};
+ghost use Rattle.desk_keeper.specs.Changes.{with_draft, with_issue};
+ghost use Rattle.desk_keeper.specs.Calls.{Answers, Changes, failed_calls};
+ghost use Rattle.sqlite.specs.Held.{state};
 ghost use Rattle.keeper_sqlite.specs.Causes.{error_of, faults_after};
+ghost use Rattle.keeper_sqlite.specs.Commits.{KeepsCommitted};
 
 use crate::causes::Cause;
 use crate::drafts::{draft_of, put_draft};
@@ -32,6 +37,17 @@ impl<S: Alter + Drop> SqliteKeeper<S> {
         }
     }
 
+    /// Gives the connection back, as for closing a file.
+    pub fn into_connection(self) -> Connection<S>
+        ensures idle { result.in_transaction ≡ false }
+    {
+        let SqliteKeeper {
+            connection,
+            faults: _,
+        } = self;
+        connection
+    }
+
     /// How many of its calls failed by a fault, up to the last value.
     pub fn faults(&self) -> u64
         ensures { result ≡ self.now.faults }
@@ -44,6 +60,7 @@ impl<S: Alter + Drop> SqliteKeeper<S> {
         ensures error { result ≡ error_of cause }
         ensures counts { self.new.faults ≡ faults_after self.old.faults cause }
         ensures counted { self.old.faults ≤ self.new.faults }
+        ensures same { self.new.connection ≡ self.old.connection }
     {
         let error = cause.error();
         if error == KeeperError::Fault {
@@ -81,14 +98,25 @@ impl<S: Alter + Drop> Keeper for SqliteKeeper<S> {
         }
     }
 
-    fn put_draft(&mut self, alloc: Global, draft: &Draft) -> Result<(), KeeperError> {
+    fn put_draft(&mut self, alloc: Global, draft: &Draft) -> Result<(), KeeperError>
+        ensures tables { Changes None (with_draft (draft_fields draft.now)) result None }
+        ensures counts { self.new.faults ≡ failed_calls self.old.faults result }
+        ensures counted { self.old.faults ≤ self.new.faults }
+        ensures kept { KeepsCommitted result (state S.Store self.old.connection) (state S.Store self.new.connection) }
+    {
         match put_draft(&mut self.connection, alloc, draft) {
             Ok(()) => Ok(()),
             Err(cause) => Err(self.note(cause)),
         }
     }
 
-    fn publish(&mut self, alloc: Global, draft: &Draft) -> Result<u64, KeeperError> {
+    fn publish(&mut self, alloc: Global, draft: &Draft) -> Result<u64, KeeperError>
+        ensures receipt { Answers (λ receipt. receipt) None next_receipt result }
+        ensures tables { Changes None (with_issue (draft_fields draft.now)) result None }
+        ensures counts { self.new.faults ≡ failed_calls self.old.faults result }
+        ensures counted { self.old.faults ≤ self.new.faults }
+        ensures kept { KeepsCommitted result (state S.Store self.old.connection) (state S.Store self.new.connection) }
+    {
         match publish(&mut self.connection, alloc, draft) {
             Ok(receipt) => Ok(receipt),
             Err(cause) => Err(self.note(cause)),

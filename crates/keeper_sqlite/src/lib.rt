@@ -10,6 +10,7 @@ mod keeper;
 mod moving;
 mod opening;
 mod schema;
+mod statements;
 #[cfg(test)]
 mod tests;
 mod values;
@@ -17,4 +18,4 @@ mod values;
 pub use causes::Cause;
 pub use errors::OpenError;
 pub use keeper::SqliteKeeper;
-pub use opening::open_store;
+pub use opening::{open_store, prepare_store};

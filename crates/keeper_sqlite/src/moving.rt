@@ -1,11 +1,15 @@
 // Histories' texts from before they told what is owed, moved on to the texts of today.
-ghost use Rattle.std.specs.Prelude.{◌≡◌, IfOk};
+ghost use Rattle.std.specs.Prelude.{◌≡◌, ◌≢◌, Err, IsTrue, IfOk};
 ghost use Rattle.minute_line.specs.Histories.{fields_of};
 ghost use Rattle.minute_line.specs.Spelling.{older_spelling};
 ghost use Rattle.minute_line.specs.declared.lines.History.{History as AHistory};
+ghost use Rattle.sqlite.specs.Held.{state};
+ghost use Rattle.keeper_sqlite.specs.Commits.{CommitsNothing, only_reads};
 ghost use Rattle.keeper_sqlite.specs.Moves.{MovesTo, IsMoved};
+ghost use Rattle.keeper_sqlite.specs.declared.errors.OpenError.TheVariants.{Version};
 
 use crate::errors::OpenError;
+use crate::statements::{read, write};
 use crate::values::{number_at, text_at};
 use minute_line::{Bytes, TextError, history_text, upgrade};
 use sqlite::types::ValueRef;
@@ -17,6 +21,7 @@ use std::alloc::Global;
 pub(crate) fn moved_text(alloc: Global, text: &[u8]) -> Result<Bytes, OpenError>
     ensures moved { IfOk result (IsMoved text.now) }
     ensures back { (history : AHistory) → text.now ≡ older_spelling (fields_of history) → MovesTo history result }
+    ensures version { (n : _) → result ≢ Err (Version n) }
 {
     let history = match upgrade(alloc, text) {
         Ok(history) => history,
@@ -27,6 +32,7 @@ pub(crate) fn moved_text(alloc: Global, text: &[u8]) -> Result<Bytes, OpenError>
 }
 
 /// Moves the text of one row, by the statement that sets it.
+#[tactic(auto, using(crate::proofs::Keeping::then, crate::proofs::Keeping::nothing))]
 fn move_row<S: Alter>(
     tx: &mut Transaction<'_, S>,
     alloc: Global,
@@ -34,10 +40,13 @@ fn move_row<S: Alter>(
     row: &Row,
 ) -> Result<(), OpenError>
     ensures same { tx.new.conn.ghost_name ≡ tx.old.conn.ghost_name }
+    ensures kept { CommitsNothing (state S.Store tx.old.conn.now) (state S.Store tx.new.conn.now) }
+    ensures version { (n : _) → result ≢ Err (Version n) }
 {
     let place = number_at(row, 0)?;
     let text = moved_text(alloc, text_at(row, 1)?)?;
-    tx.execute(
+    write(
+        tx,
         update,
         &[ValueRef::Int(place), ValueRef::Text(text.as_slice())],
     )?;
@@ -45,6 +54,7 @@ fn move_row<S: Alter>(
 }
 
 /// Moves the texts of these rows, by the statement that sets one.
+#[tactic(auto, using(crate::proofs::Keeping::then, crate::proofs::Keeping::nothing))]
 fn move_rows<S: Alter>(
     tx: &mut Transaction<'_, S>,
     alloc: Global,
@@ -52,6 +62,8 @@ fn move_rows<S: Alter>(
     rows: &[Row],
 ) -> Result<(), OpenError>
     ensures same { tx.new.conn.ghost_name ≡ tx.old.conn.ghost_name }
+    ensures kept { CommitsNothing (state S.Store tx.old.conn.now) (state S.Store tx.new.conn.now) }
+    ensures version { (n : _) → result ≢ Err (Version n) }
 {
     for row in rows {
         move_row(tx, alloc, update, row)?;
@@ -60,24 +72,31 @@ fn move_rows<S: Alter>(
 }
 
 /// Moves the texts of one column, by the statements that tell and set them by row.
+#[tactic(auto, using(crate::proofs::Keeping::then, crate::proofs::Keeping::nothing))]
 fn move_column<S: Alter>(
     tx: &mut Transaction<'_, S>,
     alloc: Global,
     select: &str,
     update: &str,
 ) -> Result<(), OpenError>
+    requires reads { IsTrue (only_reads select.now) }
     ensures same { tx.new.conn.ghost_name ≡ tx.old.conn.ghost_name }
+    ensures kept { CommitsNothing (state S.Store tx.old.conn.now) (state S.Store tx.new.conn.now) }
+    ensures version { (n : _) → result ≢ Err (Version n) }
 {
-    let rows = tx.query_all(select, &[])?;
+    let rows = read(tx, select, &[])?;
     move_rows(tx, alloc, update, rows.as_slice())
 }
 
 /// Moves every history's text of a store.
+#[tactic(auto, using(crate::proofs::Keeping::then, crate::proofs::Keeping::nothing))]
 pub(crate) fn move_texts<S: Alter>(
     tx: &mut Transaction<'_, S>,
     alloc: Global,
 ) -> Result<(), OpenError>
     ensures same { tx.new.conn.ghost_name ≡ tx.old.conn.ghost_name }
+    ensures kept { CommitsNothing (state S.Store tx.old.conn.now) (state S.Store tx.new.conn.now) }
+    ensures version { (n : _) → result ≢ Err (Version n) }
 {
     move_column(
         tx,

@@ -1,7 +1,11 @@
 // The tables of a store, and the version of its texts.
-ghost use Rattle.std.specs.Prelude.{◌≡◌};
+ghost use Rattle.std.specs.Prelude.{◌≡◌, IfOk};
+ghost use Rattle.sqlite.specs.State.{HasCleanDisk};
+ghost use Rattle.sqlite.specs.Held.{state};
+ghost use Rattle.keeper_sqlite.specs.Commits.{CommitsNothing};
 
 use crate::causes::Cause;
+use crate::statements::{read, write};
 use sqlite::types::ValueRef;
 use sqlite::{Alter, Transaction};
 
@@ -26,10 +30,13 @@ const ISSUES: &str =
 const FORMAT: &str = "CREATE TABLE format (version INTEGER NOT NULL) STRICT";
 
 /// Whether there is a table of that name.
-fn has_table<S: Alter>(tx: &mut Transaction<'_, S>, name: &str) -> Result<bool, Cause>
+pub(crate) fn has_table<S: Alter>(tx: &mut Transaction<'_, S>, name: &str) -> Result<bool, Cause>
     ensures same { tx.new.conn.ghost_name ≡ tx.old.conn.ghost_name }
+    ensures kept { CommitsNothing (state S.Store tx.old.conn.now) (state S.Store tx.new.conn.now) }
+    ensures unchanged { HasCleanDisk (state S.Store tx.new.conn.now) → IfOk result (λ _. (state S.Store tx.new.conn.now).now ≡ (state S.Store tx.old.conn.now).now) }
 {
-    let rows = tx.query_all(
+    let rows = read(
+        tx,
         "SELECT name FROM sqlite_schema WHERE type = 'table' AND name = ?1",
         &[ValueRef::Text(name.as_bytes())],
     )?;
@@ -37,18 +44,22 @@ fn has_table<S: Alter>(tx: &mut Transaction<'_, S>, name: &str) -> Result<bool, 
 }
 
 /// Makes a table where it is missing.
+#[tactic(auto, using(crate::proofs::Keeping::then, crate::proofs::Keeping::nothing))]
 fn make_table<S: Alter>(tx: &mut Transaction<'_, S>, name: &str, text: &str) -> Result<(), Cause>
     ensures same { tx.new.conn.ghost_name ≡ tx.old.conn.ghost_name }
+    ensures kept { CommitsNothing (state S.Store tx.old.conn.now) (state S.Store tx.new.conn.now) }
 {
     if !has_table(tx, name)? {
-        tx.execute(text, &[])?;
+        write(tx, text, &[])?;
     }
     Ok(())
 }
 
 /// Makes the tables that are missing.
+#[tactic(auto, using(crate::proofs::Keeping::then, crate::proofs::Keeping::nothing))]
 pub(crate) fn make_tables<S: Alter>(tx: &mut Transaction<'_, S>) -> Result<(), Cause>
     ensures same { tx.new.conn.ghost_name ≡ tx.old.conn.ghost_name }
+    ensures kept { CommitsNothing (state S.Store tx.old.conn.now) (state S.Store tx.new.conn.now) }
 {
     make_table(tx, "histories", HISTORIES)?;
     make_table(tx, "drafts", DRAFTS)?;
@@ -60,10 +71,11 @@ pub(crate) fn make_tables<S: Alter>(tx: &mut Transaction<'_, S>) -> Result<(), C
 /// Sets the version of a store that has none.
 pub(crate) fn set_version<S: Alter>(tx: &mut Transaction<'_, S>) -> Result<(), Cause>
     ensures same { tx.new.conn.ghost_name ≡ tx.old.conn.ghost_name }
+    ensures kept { CommitsNothing (state S.Store tx.old.conn.now) (state S.Store tx.new.conn.now) }
 {
-    tx.execute(
+    write(
+        tx,
         "INSERT INTO format (version) VALUES (?1)",
         &[ValueRef::Int(VERSION)],
-    )?;
-    Ok(())
+    )
 }

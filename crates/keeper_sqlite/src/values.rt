@@ -1,5 +1,7 @@
 // Stored values as the desk's own. One that is none of them is unreadable.
 ghost use Rattle.std.specs.Prelude.{◌≡◌, ◌≤◌, ◌↔◌, pos, IsOk, IfOk, IfSome};
+ghost use Rattle.sqlite_value.specs.declared.value.Value.TheVariants.{Int};
+ghost use Rattle.sqlite_value.specs.Order.{column};
 ghost use Rattle.desk_keeper.specs.declared.records.TheConstants.{DRAFT_LIMIT};
 
 use crate::causes::Cause;
@@ -27,7 +29,9 @@ pub(crate) fn blob_at(alloc: Global, row: &Row, place: usize) -> Result<Bytes, C
 }
 
 /// A whole number.
-pub(crate) fn number_at(row: &Row, place: usize) -> Result<i64, Cause> {
+pub(crate) fn number_at(row: &Row, place: usize) -> Result<i64, Cause>
+    ensures { IfOk result (λ number. column row.now place ≡ Int number) }
+{
     match row.get_ref(place)? {
         ValueRef::Int(number) => Ok(number),
         _ => Err(Cause::Unreadable),
