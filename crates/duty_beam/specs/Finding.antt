@@ -9,7 +9,7 @@ use Rattle.duty_plan.specs.PartialDuties.{PartialDuty, serves}
 use Rattle.duty_plan.specs.Values.{IsChoice, pair_at, reduced_cost}
 use Rattle.duty_beam.specs.declared.beams.Beam.{Beam}
 
--- the steps of the duty that was found last
+-- the steps of the duty that was found last; none where the last search found no duty
 abbrev pub steps_of : Beam → List Step
 steps_of beam = beam.steps.items
 

@@ -1,5 +1,5 @@
 // The search for a good duty, with wider and wider beams.
-ghost use Rattle.std.specs.Prelude.{◌≡◌, ◌<◌, IfSome, length};
+ghost use Rattle.std.specs.Prelude.{◌≡◌, ◌<◌, [], IfSome, IfNone, length};
 ghost use Rattle.duty_plan.specs.Duties.{IsCase};
 ghost use Rattle.duty_plan.specs.Values.{IsPairs, IsPrices};
 ghost use Rattle.duty_beam.specs.Asking.{IsAsked};
@@ -53,7 +53,7 @@ pub fn make_beam(alloc: Global) -> Result<Beam, Memory> {
 impl Beam {
     ghost use Rattle.duty_beam.specs.Finding.{IsDutyOf, steps_of};
 
-    /// The steps of the duty that was found last, from the first on.
+    /// The steps of the duty that was found last, from the first on; none where the last search found no duty.
     pub fn steps(&self) -> &[Step]
         ensures { result.now ≡ steps_of self.now }
     {
@@ -113,8 +113,9 @@ impl Beam {
 
     /// Seeks a good duty of a driver at these pairs and prices, with beams of 4, 16 and 64 as far as they are no wider than asked.
     ///
-    /// The value of the duty, its cost less the prices of its orders in cents, where one was found. It takes no memory. The walks are
-    /// those of the week, and the outlook is the driver's at these pairs and prices, else fewer duties may be found.
+    /// The value of the duty, its cost less the prices of its orders in cents, where one was found, else no steps are left. It takes no
+    /// memory. The walks are those of the week, and the outlook is the driver's at these pairs and prices, else fewer duties may be
+    /// found.
     pub fn find(
         &mut self,
         case: &Case,
@@ -129,7 +130,8 @@ impl Beam {
         requires driver { driver < length case.now.week.drivers }
         requires pairs { IsPairs case.now.week pairs.now }
         requires prices { IsPrices case.now.week prices.now }
-        ensures { IfSome result (IsDutyOf case.now driver pairs.now prices.now (steps_of self.new)) }
+        ensures some { IfSome result (IsDutyOf case.now driver pairs.now prices.now (steps_of self.new)) }
+        ensures none { IfNone result (steps_of self.new ≡ []) }
     {
         let asked = Asked {
             case,
@@ -154,6 +156,12 @@ impl Beam {
                 self.run(&asked, width, self.search.known);
             }
         }
-        value_of(case, driver, pairs, prices, self.steps.as_slice())
+        match value_of(case, driver, pairs, prices, self.steps.as_slice()) {
+            Some(value) => Some(value),
+            None => {
+                self.steps.clear();
+                None
+            }
+        }
     }
 }

@@ -1,8 +1,7 @@
 -- A row that is raised by all acts covers, and what is kept of it stays sound.
-use Rattle.std.proofs.Common.{◌≡◌, ℕ, ◌+◌, ◌*◌, ◌≤◌, ◌<◌, List, All, arith, ◌-ℤ◌, set}
+use Rattle.std.proofs.Common.{◌≡◌, ℕ, ◌+◌, ◌*◌, ◌≤◌, ◌<◌, List, arith, ◌-ℤ◌}
 use Rattle.std.specs.Prelude.{bit_or}
 use Rattle.std.proofs.lemmas.Int.{ints}
-use Rattle.std.proofs.lemmas.List.Elements.{All-set}
 use Rattle.week_book.specs.declared.weeks.Week.{Week}
 use Rattle.week_book.specs.Weeks.{IsWeek}
 use Rattle.duty_plan.specs.declared.duties.Act.{Act}
@@ -11,12 +10,11 @@ use Rattle.duty_plan.specs.declared.pricing.Prices.{Prices}
 use Rattle.duty_plan.specs.Values.{IsPrices}
 use Rattle.duty_plan.proofs.OfficeSteps.{or-none}
 use Rattle.duty_outlook.specs.declared.spots.Spot.{Spot}
-use Rattle.duty_outlook.specs.declared.spots.Entry.{Entry}
 use Rattle.duty_outlook.specs.declared.outlooks.Outlook.{Outlook}
 use Rattle.duty_outlook.specs.Timetables.{saved_by}
 use Rattle.duty_outlook.specs.Covering.{Covers}
 use Rattle.duty_outlook.specs.Rows.{number_at, Grows}
-use Rattle.duty_outlook.specs.Outlooks.{CoversRow, AdmitsRow, IsFilled, IsSound, AreBlank, cents_of, later_spot}
+use Rattle.duty_outlook.specs.Outlooks.{CoversRow, AdmitsRow, IsFilled, AreBlank, cents_of, later_spot}
 use Rattle.duty_outlook.proofs.Steps.{covers-up, covers-step}
 
 -- what a load brings
@@ -55,10 +53,3 @@ filled-blank week prices outlook w p b = record {
   is_prices = p;
   sound = λ k d l early. absurd (omega (arith, b k d l, early));
 }
-
--- one entry more
-pub filled-set : (week : Week) (prices : Prices) (outlook : Outlook) (slot : ℕ) (entry : Entry) →
-    IsFilled week prices outlook → IsSound week outlook.scale.capacity outlook.scale.unit prices entry →
-    All (IsSound week outlook.scale.capacity outlook.scale.unit prices) (set outlook.entries.items slot entry)
-filled-set week prices outlook slot entry f s =
-    All-set (IsSound week outlook.scale.capacity outlook.scale.unit prices) outlook.entries.items slot entry s f.sound

@@ -25,8 +25,3 @@ pub get-same : {X : Type 0} (xs ys : List X) (k : ℕ) → k < length xs → sli
 get-same [] ys k l = absurd (omega arith)
 get-same (x ∷ xs) ys zero l = refl
 get-same (x ∷ xs) ys (suc k) l = get-same xs ys k (omega arith)
-
-pub none-past : {X : Type 0} (xs : List X) (k : ℕ) → slice_get xs k ≡ None → k < length xs → ⊥
-none-past [] k h l = omega arith
-none-past (x ∷ xs) zero h l = cc
-none-past (x ∷ xs) (suc k) h l = none-past xs k h (omega arith)

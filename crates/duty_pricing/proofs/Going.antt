@@ -83,12 +83,6 @@ module _ (asked : Asked) (store : LabelStore) (n : ℕ) (from : Label) (is : IsA
       (subst (λ (at : ℕ). is_listed asked.case.now.week (record { stay = plain_stay asked.case.now.week at act off; act = act }) x.entry.partial ≡ true)
       (sym (at-partial act)) (ready-listed asked.case.now.week off act x.entry.partial))
 
-  pub daily-listed : (start : ℕ) (act : Act) → IsListedAt asked store n (record { stay = rest_stay from.clock.at Daily start; act = act })
-  daily-listed start act e h = refl
-
-  pub weekly-listed : (start : ℕ) (act : Act) → IsListedAt asked store n (record { stay = rest_stay from.clock.at Weekly start; act = act })
-  weekly-listed start act e h = refl
-
   -- where the five Plain stays and the rests on the grid were tried, so was each stay
   pub all-stays : (act : Act) (new : LabelStore) → GrowsTo from.clock.at store new →
       ((off : ℕ) → is_plain_length off ≡ true → HasTried asked new n (record { stay = plain_stay asked.case.now.week from.clock.at act off; act = act })) →

@@ -74,12 +74,6 @@ module _ (round : RoundView) (seat : SeatView) (numbers : List ℕ) (stored : �
       full = full;
     }
 
-pub open-same : (asked : Asked) (seat : SeatView) (old new : LabelStore) → new.slots ≡ old.slots → new.numbers ≡ old.numbers →
-    IsOpen asked seat old → IsOpen asked seat new
-open-same asked seat old new slots numbers is =
-    subst (λ (xs : List ℕ). IsOpenSeat asked.round.now seat xs (length new.slots)) (sym numbers)
-    (subst (λ (xs : List Slot). IsOpenSeat asked.round.now seat old.numbers (length xs)) (sym slots) is)
-
 -- what the seat drew and what is stored license a Spent
 pub spent-seat : (asked : Asked) (seat : SeatView) (store : LabelStore) → IsFull asked seat store →
     IsSpentSeat asked.round.now.chunks seat.drawn (entries_of store.slots)
@@ -98,17 +92,3 @@ seat-of asked seat store is list = record {
   list = list;
   filled = (let d = is.drawn in let n = is.needed in let l = length-entries store.slots in omega arith);
 }
-
-eqb-itself : (k : ℕ) → eqb k k ≡ true
-eqb-itself k = grind (arith, nat_tests)
-
--- the newest chunk is given back
-module _ (held before after : List ℕ) (number : ℕ) (same : held ≡ reverse before) (last : before ≡ after ++ number ∷ []) where
-  newest : held ≡ number ∷ reverse after
-  newest = same ∙ (ap (λ (xs : List ℕ). reverse xs) last ∙ reverse-append after (number ∷ []))
-
-  pub holds-newest : 0 < drawn_times number held
-  holds-newest = subst (λ (xs : List ℕ). 0 < drawn_times number xs) (sym newest) (rw (eqb-itself number) (omega arith))
-
-  pub newest-gone : without number held ≡ reverse after
-  newest-gone = ap (without number) newest ∙ rw (eqb-itself number) refl

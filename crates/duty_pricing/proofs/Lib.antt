@@ -22,3 +22,4 @@ pub mod Beginning
 pub mod Answering
 pub mod Chunking
 pub mod Filling
+pub mod Plain

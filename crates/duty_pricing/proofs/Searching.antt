@@ -119,25 +119,6 @@ may-still asked minute old new n k step label next l x m a = record {
         let same : next.clock.at ≡ other.label.clock.at = ap (λ (e : Entry). e.label.clock.at) z.1 in
         omega (arith, m.later, l)
 
--- nothing was added
-pub search-same : (asked : Asked) (minute : ℕ) (old new : LabelStore) → IsSearch asked minute old → new.slots ≡ old.slots →
-    AreChained new.minutes.items new.cells.items new.slots → length new.minutes.items ≡ length old.minutes.items →
-    length new.cells.items ≡ length old.cells.items → new.known ≡ old.known → new.best ≡ old.best → IsSearch asked minute new
-search-same asked minute old new s slots chained minutes cells known best =
-    let entries : entries_of new.slots ≡ entries_of old.slots = ap entries_of slots in
-    record {
-      chained = chained;
-      list = subst (λ (es : List Entry). IsLabelList asked.case.now asked.driver asked.pairs.now asked.prices.now es) (sym entries) s.list;
-      extended = subst (λ (es : List Entry). AreExtendedBy minute es) (sym entries) s.extended;
-      shown = λ k e h. subst (λ (o : Option ℤ). IsKnown asked.case.now asked.driver asked.pairs.now asked.prices.now o e) (sym known)
-          (s.shown k e (ap (λ (es : List Entry). slice_get es k) (sym entries) ∙ h));
-      has_best = λ value h.
-          subst (λ (es : List Entry). IsBest asked es new.best value) (sym entries)
-          (subst (λ (b : Option ℕ). IsBest asked (entries_of old.slots) b value) (sym best) (s.has_best value (sym known ∙ h)));
-      minutes_all = minutes ∙ s.minutes_all;
-      cells_all = omega (arith, s.cells_all, cells);
-    }
-
 pub grows-same : (minute : ℕ) (old new : LabelStore) → new.slots ≡ old.slots → new.known ≡ old.known → GrowsTo minute old new
 grows-same minute old new slots known = record {
   more = [];

@@ -48,6 +48,12 @@ IsFoundIn m case driver pairs prices drawn store NoDuty = HasNoDuty case driver 
 IsFoundIn m case driver pairs prices drawn store (Spent stored) =
     IsSpentSeat m drawn (entries_of store.slots) × (stored ≡ length store.slots)
 
+-- steps are left only where a duty was found
+abbrev pub HasStepsOnlyOfDuty : LabelStore → Found → Type 0
+HasStepsOnlyOfDuty store (Least value) = Unit {0}
+HasStepsOnlyOfDuty store NoDuty = store.steps ≡ []
+HasStepsOnlyOfDuty store (Spent stored) = store.steps ≡ []
+
 -- so for what is asked
 abbrev pub IsFound : Asked → SeatView → LabelStore → Found → Type 0
 IsFound asked seat store found =

@@ -2,6 +2,7 @@ pub mod Exhausting
 pub mod Listing
 pub mod Storing
 pub mod Slots
+pub mod Plain
 pub mod Holding
 pub mod Asking
 pub mod Searching

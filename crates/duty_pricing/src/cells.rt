@@ -1,8 +1,11 @@
 // The stored labels of a place by the hours in which their work days began. The work day of one that betters a label began no sooner
 // than the label's, and in the same hour it is found soonest.
-ghost use Rattle.std.specs.Prelude.{◌≡◌, ◌<◌, ◌≤◌, ◌≤ℤ◌, ◌/◌, ℕ, pos, length, true, false, Some, slice_get};
+ghost use Rattle.std.specs.Prelude.{◌≡◌, ◌↔◌, ◌<◌, ◌≤◌, ◌≤ℤ◌, ◌/◌, ℕ, pos, length, true, false, Some, slice_get};
 ghost use Rattle.minute_line.specs.declared.lines.TheConstants.{WEEK_MINUTES};
+ghost use Rattle.dominance.specs.declared.storing.Fronts.{Fronts};
+ghost use Rattle.dominance.specs.Storing.{IsDominated};
 ghost use Rattle.dominance.specs.Reaching.{DominatesWithin};
+ghost use Rattle.duty_pricing.specs.Plain.{HoldsSlots, ServeAmong};
 ghost use Rattle.duty_pricing.specs.declared.slots.Slot.{Slot};
 ghost use Rattle.duty_pricing.specs.Slots.{AreChained, HaveDays, cell_at, cell_of, day_hour};
 
@@ -58,7 +61,7 @@ impl LabelStore {
     }
 
     /// Whether a slot of that number or a later one betters a label, for a driver with these forced orders, where orders out of
-    /// reach are ignored. Orders are given as bits.
+    /// reach are ignored. Orders are given as bits. It is what a plain scan of these labels answers, where none is out of reach.
     pub(crate) fn bettered(&self, label: &Label, from: u32, forced: u128, reach: u128) -> bool
         requires chained { AreChained self.now.minutes.items self.now.cells.items self.now.slots }
         requires days { HaveDays self.now.slots }
@@ -67,6 +70,8 @@ impl LabelStore {
         requires place { label.now.place < 64 }
         ensures some { result ≡ true → (n : ℕ) × (slot : Slot) × (from ≤ n) × (slice_get self.now.slots n ≡ Some slot) × DominatesWithin slot.label label.now forced reach }
         ensures none { result ≡ false → (n : ℕ) (slot : Slot) → from ≤ n → slice_get self.now.slots n ≡ Some slot → DominatesWithin slot.label label.now forced reach → ⊥ }
+        ensures plain { (fronts : Fronts) → HoldsSlots fronts self.now.slots from → fronts.forced ≡ forced → ServeAmong self.now.slots reach →
+            (result ≡ true ↔ IsDominated fronts label.now) }
     {
         for hour in day_hour(label)..label.clock.at / 60 + 1 {
             let cell = cell(label.place, label.clock.half, hour);

@@ -48,6 +48,7 @@ impl LabelStore {
         ensures room { StoreHasRoom self.new }
         ensures known { self.new.known ≡ None }
         ensures same { (self.new.slots ≡ self.old.slots) × (self.new.numbers ≡ self.old.numbers) }
+        ensures steps { self.new.steps ≡ self.old.steps }
     {
         clear(self.minutes.as_mut_slice());
         clear(self.cells.as_mut_slice());

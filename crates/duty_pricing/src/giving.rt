@@ -14,6 +14,7 @@ impl LabelStore {
         ensures empty { (self.new.slots ≡ []) × (self.new.numbers ≡ []) }
         ensures seat { HasGivenAll seat.old seat.new }
         ensures same { (self.new.minutes ≡ self.old.minutes) × (self.new.cells ≡ self.old.cells) }
+        ensures steps { self.new.steps ≡ self.old.steps }
     {
         'giving: while let Some(number) = self.numbers.pop() {
             let Some(chunk) = self.slots.pop() else {

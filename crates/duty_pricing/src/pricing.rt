@@ -1,7 +1,7 @@
 // The least duty of a driver.
 ghost use Rattle.std.specs.Prelude.{◌≡◌, [], true, false};
 ghost use Rattle.duty_pricing.specs.Asking.{IsAsked};
-ghost use Rattle.duty_pricing.specs.Finding.{StoreHasRoom, HoldsStore, IsEmptyStore, IsFound, IsSeated};
+ghost use Rattle.duty_pricing.specs.Finding.{StoreHasRoom, HasStepsOnlyOfDuty, HoldsStore, IsEmptyStore, IsFound, IsSeated};
 ghost use Rattle.duty_pricing.specs.Searching.{IsFull, IsOpen, IsSearch};
 
 use crate::asking::Asked;
@@ -60,23 +60,27 @@ impl LabelStore {
         true
     }
 
-    /// The driver's least value, with the duty in the store's steps.
+    /// The driver's least value, with the duty in the store's steps; without a duty these are none.
     pub(crate) fn price(&mut self, asked: &Asked, seat: &mut Seat<Slot>) -> Found
         requires asked { IsAsked asked.now }
         requires empty { IsEmptyStore self.old }
         requires open { IsOpen asked.now seat.old self.old }
         ensures found { IsFound asked.now seat.new self.new result }
+        ensures steps { HasStepsOnlyOfDuty self.new result }
         ensures seat { IsSeated asked.now seat.new self.new }
         ensures holds { HoldsStore asked.now.round.now seat.new self.new }
         ensures room { StoreHasRoom self.new }
     {
         if !self.begin(asked, seat) {
+            self.steps.clear();
             return Found::Spent(self.slots.len());
         }
         if !self.exhaust(asked, seat) {
+            self.steps.clear();
             return Found::Spent(self.slots.len());
         }
         let Some(value) = self.known else {
+            self.steps.clear();
             return Found::NoDuty;
         };
         let Some(best) = self.best else {

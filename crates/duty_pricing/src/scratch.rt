@@ -1,11 +1,11 @@
 // What the pricing of a driver works with, which is made once, and its calls.
-ghost use Rattle.std.specs.Prelude.{◌≡◌, ◌<◌, ◌≤◌, IfOk, length, true};
+ghost use Rattle.std.specs.Prelude.{◌≡◌, ◌<◌, ◌≤◌, [], IfOk, length, true, false};
 ghost use Rattle.duty_plan.specs.Duties.{IsCase};
 ghost use Rattle.week_book.specs.Weeks.{IsWeek};
 ghost use Rattle.duty_plan.specs.Values.{IsChoice, IsPairs, IsPrices};
 ghost use Rattle.duty_plan.specs.SharedRounds.{IsSeatOf};
 ghost use Rattle.label_arena.specs.Views.{IsNew};
-ghost use Rattle.duty_pricing.specs.Finding.{HasRoom, HoldsScratch, IsEmpty, IsFoundFor, entries_in};
+ghost use Rattle.duty_pricing.specs.Finding.{HasRoom, HasStepsOnlyOfDuty, HoldsScratch, IsEmpty, IsFoundFor, entries_in};
 ghost use Rattle.duty_pricing.specs.Holding.{HasGivenAll};
 
 use crate::asking::Asked;
@@ -40,6 +40,9 @@ pub struct Scratch {
     pub(crate) outlook: Outlook,
     pub(crate) beam: Beam,
     pub(crate) labels: LabelStore,
+    /// How many labels the widest search for a good duty goes on with in a quarter of an hour: 64 where it was just made. The least
+    /// value is the same whatever it is; a narrow search may leave more labels to be stored.
+    pub widest: u32,
 }
 
 /// An empty scratch, with room for the labels of 2,048 chunks, or `Memory` where there is too little. No other call of this
@@ -52,6 +55,7 @@ pub fn make_scratch(alloc: Global) -> Result<Scratch, Memory>
         outlook: make_outlook(alloc, ENTRIES)?,
         beam: make_beam(alloc)?,
         labels: make_store(alloc)?,
+        widest: WIDEST,
     })
 }
 
@@ -64,13 +68,14 @@ impl Scratch {
     }
 }
 
-/// How wide a search for a good duty is: it is none where a forced order is out of reach, since there is no duty then.
-fn widest_for(forced: u128, reach: u128) -> u32 {
-    if has_all(forced, reach) { WIDEST } else { 0 }
+/// How wide a search for a good duty is: there is none where a forced order is out of reach, since there is no duty then.
+fn widest_for(forced: u128, reach: u128, widest: u32) -> u32 {
+    if has_all(forced, reach) { widest } else { 0 }
 }
 
 /// The least value of a driver at pairs and prices, in cents: a duty's cost less the prices of its orders. A duty that has it is in
-/// the scratch's steps. The labels stay in the scratch, with the chunks that the seat drew for them, until they are given back.
+/// the scratch's steps, which are none where no duty was found. The labels stay in the scratch, with the chunks that the seat drew for
+/// them, until they are given back.
 pub fn price_driver(
     case: &Case,
     driver: u32,
@@ -88,6 +93,7 @@ pub fn price_driver(
     requires seat { IsNew round.now.name seat.old }
     requires empty { IsEmpty scratch.old }
     ensures found { IsFoundFor round.now.chunks case.now driver pairs.now prices.now seat.new.drawn scratch.new result }
+    ensures steps { HasStepsOnlyOfDuty scratch.new.labels result }
     ensures seat { IsSeatOf round.now.chunks case.now driver pairs.now prices.now seat.new.drawn (entries_in scratch.new) }
     ensures holds { HoldsScratch round.now seat.new scratch.new }
     ensures room { HasRoom scratch.new }
@@ -95,7 +101,8 @@ pub fn price_driver(
     scratch.walks.fill(&case.week);
     scratch.outlook.fill(case, driver, pairs, prices);
     let forced = forced(case, driver, pairs);
-    let widest = widest_for(forced, scratch.walks.reached(&case.week, 0, 0));
+    let reach = scratch.walks.reached(&case.week, 0, 0);
+    let widest = widest_for(forced, reach, scratch.widest);
     let found = scratch.beam.find(
         case,
         driver,
@@ -136,7 +143,7 @@ fn may_serve(week: &Week, driver: u32, pairs: &Pairs) -> bool
 }
 
 /// Seeks a good duty of a driver inside the pairs, by the search for good duties alone, of the second width. Whether one was found:
-/// it is in the scratch's steps then. It draws no chunk.
+/// it is in the scratch's steps then, which are none else. It draws no chunk.
 pub fn guess_duty(
     case: &Case,
     driver: u32,
@@ -150,6 +157,7 @@ pub fn guess_duty(
     requires prices { IsPrices case.now.week prices.now }
     requires empty { IsEmpty scratch.old }
     ensures duty { result ≡ true → IsChoice case.now driver pairs.now (record { steps = scratch.new.labels.steps }) }
+    ensures none { result ≡ false → scratch.new.labels.steps ≡ [] }
     ensures empty { IsEmpty scratch.new }
 {
     let widest = if may_serve(&case.week, driver, pairs) {
@@ -169,6 +177,7 @@ pub fn guess_duty(
         widest,
     );
     if found.is_none() {
+        scratch.labels.steps.clear();
         return false;
     }
     scratch.labels.steps.copy(scratch.beam.steps());
@@ -180,6 +189,7 @@ pub fn give_back(round: &Round<Slot>, seat: &mut Seat<Slot>, scratch: &mut Scrat
     requires holds { HoldsScratch round.now seat.old scratch.old }
     requires room { HasRoom scratch.old }
     ensures empty { IsEmpty scratch.new }
+    ensures steps { scratch.new.labels.steps ≡ scratch.old.labels.steps }
     ensures seat { HasGivenAll seat.old seat.new }
 {
     scratch.labels.give_chunks(round, seat);

@@ -44,7 +44,8 @@ impl Steps {
         self.steps.as_slice()
     }
 
-    fn clear(&mut self)
+    /// Forgets the steps.
+    pub(crate) fn clear(&mut self)
         ensures { self.new ≡ [] }
     {
         self.steps.clear();

@@ -11,7 +11,7 @@ use Rattle.atomic_table.proofs.Lists.{at_set, set_else}
 use Rattle.label_arena.specs.declared.views.View.{View}
 use Rattle.label_arena.specs.Counting.{times, beyond, top, total}
 use Rattle.label_arena.specs.Rule.{seat_view, seat_parts, Fits, IsRoundState, Seated, draws}
-use Rattle.label_arena.proofs.Counts.{total_set, total_at, total_le, times_snoc, beyond_snoc, once_suc, once_pos, once_le, top_le, past_suc, at_most_one}
+use Rattle.label_arena.proofs.Counts.{total_set, total_at, total_le, times_snoc, beyond_snoc, once_suc, once_pos, top_le, past_suc, at_most_one}
 
 pub parts_of_seat : (v : View) → v.is_rest ≡ false → seat_parts v ≡ v.parts
 parts_of_seat v seat = ap (λ (b : Bool). cond b 0 v.parts) seat
@@ -32,11 +32,6 @@ module _ (T : Type 0) (seats : ℕ) where
   drawn_below s k id v at x pos =
       let one : times x v.drawn ≤ total (λ u. times x u.drawn) s.views = total_at (λ u. times x u.drawn) s.views id v at in
       let all = k.each_once x in once_pos x (count s) (omega arith)
-
-  pub drawn_once : (s : St) (k : IsRoundState seats s) (id : ℕ) (v : View) → get_elem? s.views id ≡ some v → (x : ℕ) → times x v.drawn ≤ 1
-  drawn_once s k id v at x =
-      let one : times x v.drawn ≤ total (λ u. times x u.drawn) s.views = total_at (λ u. times x u.drawn) s.views id v at in
-      let all = k.each_once x in let most = once_le x (count s) in omega arith
 
   -- the counter goes up, its number joins what the seat drew, and only that number's slot may change
   drawn : (s : St) (k : IsRoundState seats s) (id : ℕ) (v : View) (homes' : List (maybe.Option (Option (List T)))) → get_elem? s.views id ≡ some v

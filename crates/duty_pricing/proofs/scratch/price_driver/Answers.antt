@@ -10,7 +10,7 @@ price-requires-clause-asked c = record {
   are_prices = c.requires.prices;
   walks = c.fill.ensures;
   outlook = c.fill-2.ensures;
-  found = found-beforehand c.args.case.now c.args.driver c.args.pairs.now c.args.prices.now c.find-found.result _ _ c.find-found.ensures c.steps.ensures;
+  found = found-beforehand c.args.case.now c.args.driver c.args.pairs.now c.args.prices.now c.find-found.result _ _ c.find-found.ensures.some c.steps.ensures;
   few = c.requires.few;
   is_forced = c.forced-forced.ensures;
 }

@@ -1,10 +1,11 @@
 -- The work day of a slot that betters the label began no sooner than the label's, and by the minute at which the label ends.
-use Rattle.std.proofs.Common.{◌≡◌, ◌⊎◌, inl, inr, ◌+◌, ◌<◌, suc, ◌≤◌, ℕ, Bool, Some, slice_get, sym, ap, ◌∙◌, arith}
+use Rattle.std.proofs.Common.{◌≡◌, ◌⊎◌, inl, inr, ◌+◌, ◌<◌, suc, ◌≤◌, ℕ, Bool, Some, slice_get, refl, sym, ap, ◌∙◌, arith}
 use Rattle.dominance.specs.Reaching.{DominatesWithin}
 use Rattle.duty_pricing.specs.declared.slots.Slot.{Slot}
 use Rattle.duty_pricing.specs.Slots.{cell_at, cell_of, day_hour}
 use Rattle.duty_pricing.proofs.Days.{hours-low, hours-rise}
 use Rattle.duty_pricing.proofs.Links.{lt-or}
+use Rattle.duty_pricing.proofs.Plain.{dominates-slot, slot-dominates}
 use Rattle.duty_pricing.proofs.stores.LabelStore.bettered.Goals as goal
 
 pub loop-hour-init : goal.loop-hour-init
@@ -38,3 +39,18 @@ returns-clause-none c = λ _ n slot l h b.
     let low = hours-low slot.label.clock.day_from slot.label.clock.at (c.requires.days n slot h) in
     let end = c.loop-hour-test.false in
     c.loop-hour.invariant n slot l h (omega (arith, sooner, low, end)) b
+
+pub returns-then-bettered_in-clause-plain : goal.returns-then-bettered_in-clause-plain
+returns-then-bettered_in-clause-plain c = λ fronts h same among.
+    let b = c.bettered_in.ensures.some c.if-bettered_in.true in (
+      λ _. slot-dominates c.args.self.now.slots c.args.from c.args.forced c.args.reach c.args.label.now fronts h same among b.0 b.1 b.2 b.3 b.4,
+      λ _. refl,
+    )
+
+pub returns-clause-plain : goal.returns-clause-plain
+returns-clause-plain c = λ fronts h same among. (
+  λ t. cc,
+  λ d.
+      absurd (dominates-slot c.args.self.now.slots c.args.from c.args.forced c.args.reach c.args.label.now fronts h same among d
+      (returns-clause-none c refl)),
+)

@@ -10,6 +10,7 @@ invariant-giving l = record {
   needed : length l.self.numbers ≡ (length l.self.slots + 1023) / 1024;
   minutes : l.self.minutes ≡ l.fn.self.minutes;
   cells : l.self.cells ≡ l.fn.self.cells;
+  steps : l.self.steps ≡ l.fn.self.steps;
 }
 
 abbrev pub decreases-giving : goal.decreases-giving
