@@ -31,12 +31,12 @@ ends_daily m before = ends_run 1 m before && is_daily m.kind
 abbrev pub ends_weekly : Minute → Minutes → Bool
 ends_weekly m before = ends_run 1 m before && is_weekly m.kind
 
--- an off run of at least n minutes ended within the list
+-- an off run of at least n minutes ended within the list; the open run is left out, and one that the list begins after
 abbrev pub has_run : ℕ → Minutes → Bool
 has_run n [] = false
 has_run n (m ∷ before) = ends_run n m before || has_run n before
 
--- the minutes of the off runs of at least n minutes that ended within the list
+-- the minutes of the off runs of at least n minutes that ended within the list; the same two are left out
 abbrev pub off_in_runs : ℕ → Minutes → ℕ
 off_in_runs n [] = 0
 off_in_runs n (m ∷ before) = (if ends_run n m before then open_run before else 0) + off_in_runs n before
@@ -54,7 +54,7 @@ work_day_of line = since ends_rest line
 abbrev pub since_weekly : Minutes → Minutes
 since_weekly line = since ends_weekly line
 
--- all minutes after the last off run of at least 15 minutes that has ended (Directive, Art. 5)
+-- all minutes after the last off run of at least 15 minutes that has ended, whatever it was declared to be (Directive, Art. 5)
 abbrev pub since_pause : Minutes → Minutes
 since_pause line = since (ends_run PAUSE) line
 
