@@ -4,32 +4,10 @@ ghost use Rattle.duty_plan.specs.Duties.{IsCase};
 ghost use Rattle.cheap_plans.specs.Drafts.{IsDraft};
 
 use crate::drafts::{Draft, no_duty};
-use duty_plan::{Case, Duty};
+use duty_plan::{Case, Duty, copied_duty};
 use minute_line::{Many, Memory};
-use price_master::copied_duty;
+use seeded_draws::Draws;
 use std::alloc::Global;
-
-/// The factor and the summand of a state of 64 bits (Knuth's MMIX).
-const FACTOR: u64 = 6_364_136_223_846_793_005;
-
-const SUMMAND: u64 = 1_442_695_040_888_963_407;
-
-/// A generator of numbers: each state is the one before times a factor and with a summand, as 64 bits.
-#[derive(Drop)]
-pub(crate) struct Draws {
-    pub state: u64,
-}
-
-impl Draws {
-    /// The next number below `size`, of the high bits of the state.
-    fn draw(&mut self, size: u32) -> u32
-        requires { 0 < size }
-        ensures { result < size }
-    {
-        self.state = self.state.wrapping_mul(FACTOR).wrapping_add(SUMMAND);
-        (self.state >> 33) as u32 % size
-    }
-}
 
 /// How many of the duties aren't empty.
 pub(crate) fn used(duties: &[Duty]) -> u32
