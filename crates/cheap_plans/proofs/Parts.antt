@@ -1,5 +1,5 @@
 -- A part of what subcontractors take makes prices.
-use Rattle.std.proofs.Common.{◌≡◌, ℕ, zero, suc, ◌*◌, ◌/◌, ◌<◌, ◌≤◌, List, [], ◌∷◌, map, length, get_or, refl, ap, sym, ◌∙◌, subst, arith, slice_get}
+use Rattle.std.proofs.Common.{◌≡◌, ℕ, zero, suc, ◌*◌, ◌/◌, ◌≤◌, List, [], ◌∷◌, map, length, get_or, refl, ap, sym, ◌∙◌, subst, arith, slice_get}
 use Rattle.std.proofs.Math.Nat.{div-le_of_le-mul}
 use Rattle.week_book.specs.declared.weeks.Order.{Order}
 use Rattle.week_book.specs.declared.weeks.Week.{Week}

@@ -8,9 +8,9 @@ ghost use Rattle.cheap_plans.specs.Drafts.{IsDraft};
 use crate::drafts::{Draft, first_freed, freed_pairs, no_duty};
 use crate::guessing::{Tries, ask};
 use crate::valuing::{are_empty, carriers, value};
-use duty_plan::{Case, Duty, Pairs, Pricer, Prices};
+use duty_plan::{Case, Duty, Pairs, Pricer, Prices, copied_duty};
 use minute_line::{Many, Memory};
-use price_master::{copied_duty, next_prices};
+use price_master::next_prices;
 use std::alloc::Global;
 
 /// How many rounds there are, and the number of the first: prices move less the higher a round's number is.

@@ -4,9 +4,9 @@ ghost use Rattle.duty_plan.specs.Duties.{IsCase};
 ghost use Rattle.duty_plan.specs.Values.{IsPairs};
 ghost use Rattle.cheap_plans.specs.Drafts.{IsDraft};
 
-use duty_plan::{Case, Duty, Pair, Pairs};
+use duty_plan::{Case, Duty, Pair, Pairs, copied_duty};
 use minute_line::{Many, Memory};
-use price_master::{copied_duty, serves_in};
+use price_master::serves_in;
 use std::alloc::Global;
 
 /// A duty for each driver, and whether the driver is freed: a freed one may be given another duty, of orders that no driver

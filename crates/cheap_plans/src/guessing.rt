@@ -1,15 +1,15 @@
 // Guesses, how many may still be asked for, and the duties that they gave.
-ghost use Rattle.std.specs.Prelude.{◌≡◌, ◌<◌, ◌≤◌, length, IfOk, OnOk};
-ghost use Rattle.duty_plan.specs.Duties.{EachOf, IsCase, IsLawful};
+ghost use Rattle.std.specs.Prelude.{◌≡◌, ◌<◌, length, IfOk, OnOk};
+ghost use Rattle.duty_plan.specs.Duties.{EachOf, IsCase};
 ghost use Rattle.duty_plan.specs.Values.{IsPairs, IsPrices};
 ghost use Rattle.price_master.specs.Pools.{IsPool};
-ghost use Rattle.cheap_plans.specs.Drafts.{IsDraft, IsLawfulGuess};
+ghost use Rattle.cheap_plans.specs.Drafts.{IsLawfulGuess};
 
 use crate::alike::kinds;
 use crate::drafts::no_duty;
-use duty_plan::{Case, Duty, Pairs, Pricer, Prices};
+use duty_plan::{Case, Duty, Pairs, Pricer, Prices, copied_duty};
 use minute_line::{Many, Memory};
-use price_master::{Pool, copied_duty};
+use price_master::Pool;
 use std::alloc::Global;
 
 /// How many drivers may still be priced, and the duties that were guessed so far.

@@ -1,5 +1,5 @@
 // The step that makes a plan cheaper.
-ghost use Rattle.std.specs.Prelude.{◌≡◌, ◌<◌, ◌≤◌, length, replicate, IfOk};
+ghost use Rattle.std.specs.Prelude.{◌≡◌, ◌<◌, ◌≤◌, IfOk};
 ghost use Rattle.duty_plan.specs.Duties.{IsCase};
 ghost use Rattle.duty_plan.specs.Values.{IsPrices};
 ghost use Rattle.duty_plan.specs.Trees.{IsPlanAtCost};
@@ -8,7 +8,7 @@ ghost use Rattle.cheap_plans.specs.Drafts.{IsDraft};
 
 use crate::diving::{Rounds, dive, fix_first};
 use crate::drafts::{Draft, copied_duties, no_duties};
-use crate::draws::{Draws, some_freed, used};
+use crate::freeing::{some_freed, used};
 use crate::guessing::Tries;
 use crate::incumbents::{Incumbent, offer_duties, offer_picked};
 use crate::starting::part_of_prices;
@@ -16,6 +16,7 @@ use crate::turning::again;
 use duty_plan::{Case, Pricer, Prices};
 use minute_line::Memory;
 use price_master::empty_pool;
+use seeded_draws::Draws;
 use std::alloc::Global;
 
 /// How many drivers are priced before the passes, where drivers who are alike count as one: some ten seconds on one processor.
@@ -28,7 +29,7 @@ const MOST_IN_PASSES: u32 = 96;
 /// More passes than their pricings suffice for, unless nothing is guessed.
 const MOST_PASSES: u32 = 64;
 
-/// The first state of the draws of passes.
+/// The seed of the draws of passes.
 const SEED: u64 = 1;
 
 /// The rounds before the first driver is fixed in the dive from what subcontractors take. With fewer the prices are still far
@@ -41,8 +42,9 @@ const SECOND: Rounds = Rounds { count: 24, from: 0 };
 /// All of what subcontractors take, in percent.
 const ALL: u64 = 100;
 
-/// The part of it, in percent, from which the second dive begins. On a usual week the first dive misses the best plan known by
-/// up to a twentieth, as luck has it; both together came to it, from any part of 25 to 40 (docs/PLANS.md).
+/// The part of it, in percent, from which the second dive begins. On the usual week the first dive alone misses the best plan known
+/// by up to an eighth, with 395,200 cents; with a second dive from any part of 25 to 40 the plan came to 352,800 or 353,300
+/// (docs/PLANS.md).
 const PART: u64 = 33;
 
 /// The rounds before each later driver is fixed: prices move less than in a first round.
@@ -176,7 +178,7 @@ fn offer_passes<P: Pricer>(
     ensures falls { incumbent.new.cost ≤ incumbent.old.cost }
     ensures chunks { P.chunks pricer.new ≡ P.chunks pricer.old }
 {
-    let mut draws = Draws { state: SEED };
+    let mut draws = Draws::seeded(SEED);
     let mut passes = 0;
     while passes < MOST_PASSES && tries.left > 0 {
         offer_pass(alloc, case, pricer, tries, incumbent, prices, &mut draws)?;

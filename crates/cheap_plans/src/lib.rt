@@ -4,7 +4,7 @@
 mod alike;
 mod diving;
 mod drafts;
-mod draws;
+mod freeing;
 mod guessing;
 mod improving;
 mod incumbents;

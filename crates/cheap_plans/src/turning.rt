@@ -1,17 +1,16 @@
 // Drivers priced again in turn.
-ghost use Rattle.std.specs.Prelude.{◌≡◌, ◌<◌, ◌≤◌, length, OnOk};
+ghost use Rattle.std.specs.Prelude.{◌≡◌, ◌<◌, length, OnOk};
 ghost use Rattle.duty_plan.specs.Duties.{IsCase};
 ghost use Rattle.duty_plan.specs.Values.{IsPrices};
 ghost use Rattle.price_master.specs.Pools.{IsPool};
 ghost use Rattle.cheap_plans.specs.Drafts.{IsDraft};
 
-use crate::alike::are_alike;
 use crate::drafts::{Draft, alone, freed_pairs};
 use crate::guessing::{Tries, ask};
 use crate::valuing::saving;
-use duty_plan::{Case, Duty, Pricer, Prices};
+use duty_plan::{Case, Duty, Pricer, Prices, are_alike, copied_duty};
 use minute_line::Memory;
-use price_master::{copied_duty, start_prices};
+use price_master::start_prices;
 use std::alloc::Global;
 
 /// Prices one driver at what subcontractors take, with the orders of the others barred, and takes the guessed duty in place of

@@ -2,7 +2,7 @@
 use Rattle.std.proofs.Common.{◌≡◌, ◌≢◌, ℕ, zero, suc, ◌+◌, ◌<◌, ◌≤◌, true, List, length, get_or, set, refl, sym, subst, arith, add-one, Some, slice_get, bit_or, get_or-set_same, get_or-set_other}
 use Rattle.price_master.specs.declared.bidding.Bid.{Bid}
 use Rattle.price_master.specs.Pools.{are_apart}
-use Rattle.price_master.specs.Bids.{AreFixed, IsFixedNext, AreChosen}
+use Rattle.price_master.specs.Bids.{AreFixed, IsFixedNext}
 
 -- a place changes nothing for the drivers before it
 pub fixed-set : (bids : List (List Bid)) (places : List ℕ) (n j place served saving : ℕ) → n ≤ j → AreFixed bids places n served saving →
@@ -39,8 +39,3 @@ fixed-next bids places n served saving k of_driver bid f at there apart l =
         saves = refl;
       },
     )
-
--- all drivers
-pub chosen-all : (bids : List (List Bid)) (places : List ℕ) (n served saving : ℕ) → n ≡ length bids → AreFixed bids places n served saving →
-    AreChosen bids places saving
-chosen-all bids places n served saving e f = (served, subst (λ (m : ℕ). AreFixed bids places m served saving) e f)

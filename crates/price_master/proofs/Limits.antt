@@ -1,24 +1,11 @@
 -- How large prices and sums of values may be.
-use Rattle.std.proofs.Common.{◌≡◌, ℕ, ◌+◌, ◌*◌, ◌<◌, ◌≤◌, Bool, true, false, List, [], ◌∷◌, ◌++◌, length, take, get_or, refl, ap, sym, ◌∙◌, arith, ℤ, pos, neg_ℤ, ◌+ℤ◌, ◌≤ℤ◌, FitsSigned, to_z, of_z, w64, Option, Some, None}
+use Rattle.std.proofs.Common.{◌≡◌, ℕ, ◌+◌, ◌*◌, ◌<◌, ◌≤◌, Bool, true, false, List, [], ◌∷◌, ◌++◌, length, take, get_or, refl, ap, sym, ◌∙◌, arith, ℤ, pos, neg_ℤ, ◌+ℤ◌, ◌≤ℤ◌, FitsSigned, to_z, of_z, w64}
 use Rattle.std.proofs.lemmas.Int.{ints}
 use Rattle.std.proofs.lemmas.Option.{slice_get-get_or}
-use Rattle.week_book.specs.declared.weeks.Order.{Order}
-use Rattle.week_book.specs.declared.weeks.Week.{Week}
-use Rattle.week_book.specs.Weeks.{IsWeek, IsOrder, order_of}
-use Rattle.duty_plan.specs.Duties.{price_of, price_or_none}
 use Rattle.duty_plan.specs.Values.{all_below, sum_of}
-use Rattle.duty_plan.proofs.WeekLimits.{all-slice_get}
 use Rattle.duty_plan.proofs.Lists.{take-more}
 use Rattle.price_master.specs.Valuing.{IsModest, AreModest}
 use Rattle.price_master.proofs.Duality.{all-at}
-
--- what a subcontractor takes is at most 100,000,000 cents
-pub price-most : (week : Week) (o : ℕ) → IsWeek week → price_of week o ≤ 100000000
-price-most week o w = by_order (order_of week o) refl
-  where
-    by_order : (found : Option Order) → order_of week o ≡ found → price_or_none found ≤ 100000000
-    by_order None e = omega arith
-    by_order (Some order) e = (all-slice_get (IsOrder (length week.places)) week.orders o order w.orders e).price
 
 -- a test that fails below n doesn't hold below n
 pub all-fails : (test : ℕ → Bool) (n k : ℕ) → k < n → test k ≡ false → all_below test n ≡ false

@@ -1,5 +1,5 @@
 -- The bids of all classes in one list, by falling savings.
-use Rattle.std.proofs.Common.{◌≡◌, ◌≢◌, ◌⊎◌, inl, inr, ℕ, ◌+◌, ◌<◌, ◌≤◌, Bool, true, false, cond, eqb, nat_lt, List, [], length, take, get_or, refl, ap, sym, ◌∙◌, subst, arith, Some, slice_get}
+use Rattle.std.proofs.Common.{◌≡◌, ◌≢◌, ◌⊎◌, inl, inr, ℕ, ◌+◌, ◌<◌, ◌≤◌, Bool, true, false, cond, eqb, nat_lt, List, length, take, get_or, refl, ap, sym, ◌∙◌, subst, arith, Some, slice_get}
 use Rattle.std.specs.List.{insert}
 use Rattle.std.proofs.lemmas.Bool.Decides.{nat_tests}
 use Rattle.std.proofs.lemmas.List.Sums.{sum_by-insert, sum_by_more, sum_by-take-le}
@@ -23,16 +23,6 @@ pub record AddsSoFar (class n : ℕ) (bids : List Bid) (old new : List ClassBid)
   pub all : (k : ℕ) (bid : Bid) → k < n → slice_get bids k ≡ Some bid → 0 < bid.saving → IsListed new class bid
   pub few : (f : ℕ → ℕ) → sum_class f class new ≤ sum_class f class old + sum_saving f (take n bids)
   pub others : (f : ℕ → ℕ) (other : ℕ) → (other ≡ class → ⊥) → sum_class f other new ≤ sum_class f other old
-
-pub adds-none : (class : ℕ) (bids : List Bid) (list : List ClassBid) → AreFalling list → AddsSoFar class 0 bids list list
-adds-none class bids list falls = record {
-  falling = falls;
-  each = λ k one at. inl (k, at);
-  stays = λ k one at. (k, at);
-  all = λ k bid l at some. absurd (omega arith);
-  few = λ f. omega arith;
-  others = λ f other d. omega arith;
-}
 
 saving-more : (f : ℕ → ℕ) (bids : List Bid) (n : ℕ) (bid : Bid) → slice_get bids n ≡ Some bid →
     sum_saving f (take (n + 1) bids) ≡ sum_saving f (take n bids) + cond (nat_lt 0 bid.saving) (f bid.served) 0
@@ -130,15 +120,6 @@ pub record AreListedTo (bids : List (List Bid)) (classes : List ℕ) (n : ℕ) (
       slice_get of_driver number ≡ Some bid → 0 < bid.saving → IsListed list d bid
   pub few : (f : ℕ → ℕ) (d : ℕ) (of_driver : List Bid) → slice_get bids d ≡ Some of_driver → sum_class f d list ≤ sum_saving f of_driver
   pub none : (f : ℕ → ℕ) (d : ℕ) → n ≤ d → sum_class f d list ≡ 0
-
-pub listed-none : (bids : List (List Bid)) (classes : List ℕ) → AreListedTo bids classes 0 []
-listed-none bids classes = record {
-  falling = λ i k one later l at is. cc;
-  each = λ k one at. cc;
-  all = λ d number of_driver bid l own at is some. absurd (omega arith);
-  few = λ f d of_driver at. omega arith;
-  none = λ f d l. refl;
-}
 
 pub listed-skip : (bids : List (List Bid)) (classes : List ℕ) (n : ℕ) (list : List ClassBid) → AreListedTo bids classes n list → get_or classes n 0 ≢ n →
     AreListedTo bids classes (n + 1) list

@@ -1,5 +1,5 @@
 // Drivers with the same bids, and the bids of all drivers in one list.
-ghost use Rattle.std.specs.Prelude.{◌≡◌, ◌≤◌, ◌<◌, ◌↔◌, ℕ, IsTrue, length, slice_get, slice_index, Some, IfOk, OnOk};
+ghost use Rattle.std.specs.Prelude.{◌≡◌, ◌≤◌, ◌<◌, ◌↔◌, ℕ, IsTrue, length, slice_get, Some, IfOk, OnOk};
 ghost use Rattle.price_master.specs.declared.alike.ClassBid.{ClassBid as GhostClassBid};
 ghost use Rattle.price_master.specs.Classes.{AddsBids, AreClassBids, AreClasses, AreFalling, IsFirstAlike};
 

@@ -1,9 +1,8 @@
 // What pooled duties bid: the orders that they serve, and what they save.
-ghost use Rattle.std.specs.Prelude.{◌≡◌, ◌+◌, ◌<◌, ◌≤◌, ◌^◌, length, if◌then◌else◌, IfOk, slice_get, Some};
-ghost use Rattle.std.specs.List.{insert};
+ghost use Rattle.std.specs.Prelude.{◌≡◌, ◌+◌, ◌<◌, ◌≤◌, ◌^◌, length, if◌then◌else◌, IfOk};
 ghost use Rattle.duty_plan.specs.Duties.{EachOf, IsCase};
 ghost use Rattle.price_master.specs.Pools.{IsEntry, IsPool};
-ghost use Rattle.price_master.specs.Bids.{AreBids, AreBidsOfAll, bid_by, home};
+ghost use Rattle.price_master.specs.Bids.{AreBids, AreBidsOfAll, bid_by};
 
 use crate::completing::serves_in;
 use crate::pooling::{Pool, Pooled};

@@ -57,12 +57,3 @@ pub fn rest(alloc: Global, case: &Case, duties: &[Duty]) -> Result<Many<u32>, Me
     }
     Ok(out)
 }
-
-/// A copy of the duty.
-pub fn copied_duty(alloc: Global, duty: &Duty) -> Result<Duty, Memory>
-    ensures { IfOk result (λ copy. copy ≡ duty.now) }
-{
-    Ok(Duty {
-        steps: Many::from_slice(alloc, duty.steps.as_slice())?,
-    })
-}

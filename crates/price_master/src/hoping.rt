@@ -1,5 +1,5 @@
 // What the drivers that have no duty yet can save at most, beside the orders that are served.
-ghost use Rattle.std.specs.Prelude.{◌≡◌, ℕ, ◌+◌, ◌*◌, ◌==◌, if◌then◌else◌, ◌<◌, ◌≤◌, true, false, length, drop, slice_get, slice_index, Some};
+ghost use Rattle.std.specs.Prelude.{◌≡◌, ℕ, ◌+◌, ◌==◌, if◌then◌else◌, ◌<◌, ◌≤◌, true, drop, slice_get, slice_index, Some};
 ghost use Rattle.price_master.specs.declared.alike.ClassBid.{ClassBid as GhostClassBid};
 ghost use Rattle.price_master.specs.Pools.{are_apart};
 ghost use Rattle.price_master.specs.Classes.{AreFalling, CanTake, first_saving, free_of, is_home, sum_free};

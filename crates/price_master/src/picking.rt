@@ -1,17 +1,16 @@
 // The cheapest plan of pooled duties.
-ghost use Rattle.std.specs.Prelude.{◌≡◌, ◌<◌, length, IfOk, Some, slice_get, slice_index};
+ghost use Rattle.std.specs.Prelude.{◌<◌, IfOk, Some};
 ghost use Rattle.duty_plan.specs.Duties.{IsCase};
-ghost use Rattle.price_master.specs.declared.pooling.Pooled.{Pooled as GhostPooled};
 ghost use Rattle.price_master.specs.Pools.{IsPicked, IsPool};
 ghost use Rattle.price_master.specs.Completing.{IsRest};
 ghost use Rattle.price_master.specs.Placing.{AreDutiesAt, IsDutyAt};
 
 use crate::bidding::bids_of;
-use crate::completing::{copied_duty, rest};
+use crate::completing::rest;
 use crate::exploring::best_choice;
 use crate::hoping::Places;
 use crate::pooling::{Pool, Pooled};
-use duty_plan::{Case, Duty, Plan, check_plan};
+use duty_plan::{Case, Duty, Plan, check_plan, copied_duty};
 use minute_line::{Many, Memory};
 use std::alloc::Global;
 

@@ -3,7 +3,7 @@ ghost use Rattle.std.specs.Prelude.{◌≡◌, ◌<◌, ◌≤◌, length, pos, 
 ghost use Rattle.week_book.specs.Weeks.{IsWeek};
 ghost use Rattle.duty_plan.specs.Sums.{total_below};
 ghost use Rattle.duty_plan.specs.Values.{IsPairs, IsPrices, barred_for_all, lagrangian_term, lagrangian, sum_of};
-ghost use Rattle.price_master.specs.Valuing.{AreModest, IsModest};
+ghost use Rattle.price_master.specs.Valuing.{AreModest};
 
 use crate::reading::{is_barred, most, price};
 use duty_plan::{Pairs, Prices};

@@ -14,7 +14,7 @@ use Rattle.label_arena.specs.Counting.{once_below, total, times as times_of_seat
 use Rattle.pricing_pool.specs.declared.pricing.Asked.{Asked}
 use Rattle.pricing_pool.specs.declared.workers.Worker.{Worker}
 use Rattle.pricing_pool.specs.Pricing.{IsPriced}
-use Rattle.pricing_pool.specs.Working.{HasAnswerAt, HasAnswerOfClass, HasEnded, HasWorked, IsStaffed}
+use Rattle.pricing_pool.specs.Working.{HasAnswerAt, HasAnswerOfClass, HasEnded, HasWorked, HaveClasses, IsStaffed}
 use Rattle.pricing_pool.proofs.Counting.{or_zero, times-same, total-same, total-below}
 use Rattle.pricing_pool.proofs.Elements.{get-at, got-at}
 use Rattle.pricing_pool.proofs.Sharing.{shared-round, some-same}
@@ -57,6 +57,17 @@ all-empty asked olds news ended k d l = (ended k (get_or news k d) (get-at news 
 
 pub all-ready : (asked : Asked) (olds news : List Worker) → EachOf (HasEnded asked olds) news → All (λ w. IsReady asked.round.now.name w.seat) news
 all-ready asked olds news ended k d l = (ended k (get_or news k d) (get-at news k d l)).worked.ready
+
+-- and each worker has the class that he began with
+pub have-classes : (asked : Asked) (classes : List ℕ) (olds news : List Worker) → EachOf (IsStaffed classes) olds → EachOf (HasEnded asked olds) news →
+    length news ≡ length asked.case.now.week.drivers → AreClasses asked.case.now asked.pairs.now (slice_index classes) → HaveClasses news
+have-classes asked classes olds news staffed ended count sorted n worker at =
+    let end = ended n worker at in
+    let begun = staffed n end.old end.is_old in
+    let class : worker.class ≡ slice_index classes n = end.worked.class ∙ begun.class in
+    let inside = slice_get-lt news n worker at in
+    let below = sorted.below n (omega (arith, inside, count)) in
+    omega (arith, class, below, count)
 
 given-answer : {X : Type 0} (P : X → Type 0) (found : Option X) (x : X) → found ≡ Some x → IfSome found P → P x
 given-answer P None x is h = cc

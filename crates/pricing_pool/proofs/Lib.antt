@@ -1,4 +1,3 @@
-pub mod Alike
 pub mod Classes
 pub mod Counting
 pub mod Elements

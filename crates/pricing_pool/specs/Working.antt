@@ -1,6 +1,7 @@
 -- The workers of a round.
 use Rattle.std.specs.Prelude.{◌≡◌, ◌≢◌, ◌<◌, ℕ, List, [], Some, None, length, IfSome, slice_get, slice_index}
 use Rattle.duty_plan.specs.declared.pricing.Priced.{Priced}
+use Rattle.duty_plan.specs.Duties.{EachOf}
 use Rattle.label_arena.specs.Views.{IsNew, IsReady}
 use Rattle.duty_pricing.specs.Finding.{IsEmpty}
 use Rattle.pricing_pool.specs.declared.pricing.Asked.{Asked}
@@ -23,6 +24,10 @@ pub record HasWorked (asked : Asked) (old new : Worker) : Type 0 where
   pub empty : IsEmpty new.scratch
   pub priced : new.class ≡ new.driver → IfSome new.answer (IsPriced asked new.driver new.seat.drawn)
   pub idle : new.class ≢ new.driver → new.seat.drawn ≡ []
+
+-- each worker is of the class of one of the workers
+abbrev pub HaveClasses : List Worker → Type 0
+HaveClasses workers = EachOf (λ n worker. worker.class < length workers) workers
 
 -- the worker of that number found the answer
 pub record HasAnswerAt (workers : List Worker) (number : ℕ) (answer : Priced) : Type 0 where

@@ -1,7 +1,7 @@
 // The answers of a round, once its workers have ended.
-ghost use Rattle.std.specs.Prelude.{◌≡◌, ◌≤◌, length, IfOk};
+ghost use Rattle.std.specs.Prelude.{◌≡◌, ◌<◌, length, IfOk};
 ghost use Rattle.duty_plan.specs.Duties.{EachOf};
-ghost use Rattle.pricing_pool.specs.Working.{HasAnswerAt, HasAnswerOfClass};
+ghost use Rattle.pricing_pool.specs.Working.{HasAnswerAt, HasAnswerOfClass, HaveClasses};
 
 use crate::copying::copy_answer;
 use crate::workers::Worker;
@@ -9,14 +9,12 @@ use duty_plan::Priced;
 use minute_line::{Many, Memory};
 use std::alloc::Global;
 
-/// What the worker of that number found.
+/// What the worker of that number found; want of memory where it found nothing.
 fn answer_at(alloc: Global, workers: &[Worker], number: u32) -> Result<Priced, Memory>
+    requires { number < length workers.now }
     ensures { IfOk result (HasAnswerAt workers.now number) }
 {
-    let Some(worker) = workers.get(number as usize) else {
-        return Err(Memory);
-    };
-    match &worker.answer {
+    match &workers[number as usize].answer {
         Some(answer) => copy_answer(alloc, answer),
         None => Err(Memory),
     }
@@ -24,7 +22,7 @@ fn answer_at(alloc: Global, workers: &[Worker], number: u32) -> Result<Priced, M
 
 /// The answer for each driver: what the worker found whose driver stands for that one.
 pub(crate) fn answers_of(alloc: Global, workers: &[Worker]) -> Result<Many<Priced>, Memory>
-    requires few { length workers.now ≤ 16 }
+    requires { HaveClasses workers.now }
     ensures count { IfOk result (λ answers. length answers ≡ length workers.now) }
     ensures found { IfOk result (EachOf (HasAnswerOfClass workers.now)) }
 {

@@ -1,24 +1,16 @@
 // Twins have one answer, and one guess.
 ghost use Rattle.std.specs.Prelude.{◌≡◌, IfOk};
 
-use duty_plan::{Duty, Priced};
-use minute_line::{Many, Memory};
+use duty_plan::{Duty, Priced, copied_duty};
+use minute_line::Memory;
 use std::alloc::Global;
-
-/// The same duty once more.
-fn copy_duty(alloc: Global, duty: &Duty) -> Result<Duty, Memory>
-    ensures { IfOk result (λ copy. copy ≡ duty.now) }
-{
-    let steps = Many::from_slice(alloc, duty.steps.as_slice())?;
-    Ok(Duty { steps })
-}
 
 /// The same guess once more.
 pub(crate) fn copy_guess(alloc: Global, guess: &Option<Duty>) -> Result<Option<Duty>, Memory>
     ensures { IfOk result (λ copy. copy ≡ guess.now) }
 {
     match guess {
-        Some(duty) => Ok(Some(copy_duty(alloc, duty)?)),
+        Some(duty) => Ok(Some(copied_duty(alloc, duty)?)),
         None => Ok(None),
     }
 }
@@ -28,7 +20,7 @@ pub(crate) fn copy_answer(alloc: Global, answer: &Priced) -> Result<Priced, Memo
     ensures { IfOk result (λ copy. copy ≡ answer.now) }
 {
     match answer {
-        Priced::Least(value, duty) => Ok(Priced::Least(*value, copy_duty(alloc, duty)?)),
+        Priced::Least(value, duty) => Ok(Priced::Least(*value, copied_duty(alloc, duty)?)),
         Priced::NoDuty => Ok(Priced::NoDuty),
         Priced::Spent(stored) => Ok(Priced::Spent(*stored)),
     }

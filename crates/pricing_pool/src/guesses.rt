@@ -1,5 +1,5 @@
 // Good duties of all drivers, for which no label is stored.
-ghost use Rattle.std.specs.Prelude.{◌≡◌, ◌<◌, length, IfOk, IfSome};
+ghost use Rattle.std.specs.Prelude.{◌<◌, length, IfOk, IfSome};
 ghost use Rattle.duty_plan.specs.Duties.{EachOf, IsCase};
 ghost use Rattle.duty_plan.specs.Values.{IsChoice, IsPairs, IsPrices};
 ghost use Rattle.duty_plan.specs.Rounds.{AreGuesses};

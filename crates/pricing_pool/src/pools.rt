@@ -1,5 +1,4 @@
 // All drivers side by side, over one arena.
-ghost use Rattle.std.specs.Thread.{IsSync};
 ghost use Rattle.std.specs.Prelude.{◌≡◌, ◌<◌, ◌≤◌, ℕ, All, length, IfOk, OnOk};
 ghost use Rattle.duty_plan.specs.Duties.{IsCase};
 ghost use Rattle.duty_plan.specs.Values.{IsPairs, IsPrices};
@@ -28,7 +27,6 @@ pub struct PricingPool {
 }
 
 impl Model for PricingPool {
-    ghost use Rattle.std.specs.Thread.{IsSync};
     ghost use Rattle.std.specs.Prelude.{ℕ, All};
     ghost use Rattle.duty_pricing.specs.Finding.{IsEmpty};
 

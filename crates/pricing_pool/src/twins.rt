@@ -1,42 +1,14 @@
 // Which drivers are twins, so that one of them is priced for all.
 ghost use Rattle.std.specs.Prelude.{◌≡◌, ◌<◌, ℕ, length, IfOk, IsTrue, slice_index};
-ghost use Rattle.minute_line.specs.Histories.{fields_of};
 ghost use Rattle.duty_plan.specs.Duties.{IsCase};
 ghost use Rattle.duty_plan.specs.Values.{IsPairs, pair_at};
 ghost use Rattle.duty_plan.specs.Twins.{AreTwins};
 ghost use Rattle.duty_plan.specs.SharedRounds.{AreClasses};
 ghost use Rattle.pricing_pool.specs.Classes.{IsClassOf};
 
-use duty_plan::{Case, Pairs};
-use minute_line::{History, Memory, Stint};
+use duty_plan::{Case, Pairs, are_alike};
+use minute_line::Memory;
 use std::alloc::Global;
-
-/// Whether the stints are equal.
-fn are_same_stints(one: &[Stint], other: &[Stint]) -> bool
-    ensures { IsTrue result → one.now ≡ other.now }
-{
-    one == other
-}
-
-/// Whether the minutes of the weeks before are equal.
-fn are_same_weeks(one: &[u32], other: &[u32]) -> bool
-    ensures { IsTrue result → one.now ≡ other.now }
-{
-    one == other
-}
-
-/// Whether the histories are equal.
-fn is_same(one: &History, other: &History) -> bool
-    ensures { IsTrue result → fields_of one.now ≡ fields_of other.now }
-{
-    one.prev_weekly == other.prev_weekly
-        && one.open_off == other.open_off
-        && one.prev_drive == other.prev_drive
-        && one.owed == other.owed
-        && one.due == other.due
-        && are_same_weeks(&one.work16, &other.work16)
-        && are_same_stints(one.stints.stints.as_slice(), other.stints.stints.as_slice())
-}
 
 /// Whether each order is decided alike for both drivers.
 fn have_same_rows(case: &Case, pairs: &Pairs, one: u32, other: u32) -> bool
@@ -54,8 +26,8 @@ fn have_same_rows(case: &Case, pairs: &Pairs, one: u32, other: u32) -> bool
     true
 }
 
-/// Whether the drivers have equal capacities, fees, histories and rows of pairs.
-#[tactic(auto, using(crate::proofs::Alike::are_alike))]
+/// Whether the drivers are alike, and each order is decided alike for both.
+#[tactic(auto, using(duty_plan::proofs::Twins::alike_twins))]
 fn are_twins(case: &Case, pairs: &Pairs, one: u32, other: u32) -> bool
     requires case { IsCase case.now }
     requires pairs { IsPairs case.now.week pairs.now }
@@ -63,18 +35,7 @@ fn are_twins(case: &Case, pairs: &Pairs, one: u32, other: u32) -> bool
     requires other { other < length case.now.week.drivers }
     ensures { IsTrue result → AreTwins case.now pairs.now one other }
 {
-    let (one_row, other_row) = (
-        &case.week.drivers.as_slice()[one as usize],
-        &case.week.drivers.as_slice()[other as usize],
-    );
-    let (one_past, other_past) = (
-        &case.past.as_slice()[one as usize],
-        &case.past.as_slice()[other as usize],
-    );
-    one_row.capacity == other_row.capacity
-        && one_row.fee == other_row.fee
-        && is_same(one_past, other_past)
-        && have_same_rows(case, pairs, one, other)
+    are_alike(case, one, other) && have_same_rows(case, pairs, one, other)
 }
 
 /// The first driver up to this one who stands for himself and is a twin of this one.

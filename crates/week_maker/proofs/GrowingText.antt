@@ -1,4 +1,4 @@
--- A text grows row by row, and the draws go on.
+-- A text grows row by row, with the numbers that are drawn for its rows.
 use Rattle.std.proofs.Common.{mod-lt, ◌≡◌, ◌≢◌, ℕ, zero, suc, ◌+◌, ◌-◌, ◌*◌, ◌/◌, ◌%◌, ◌^◌, ◌<◌, List, [], ◌∷◌, ◌++◌, codes, ap, append_assoc, refl, sym, ◌∙◌, add-one, arith}
 use Rattle.std.specs.Fmt.{decimal}
 use Rattle.std.specs.Prelude.{fold}
@@ -6,7 +6,7 @@ use Rattle.std.specs.List.{flat_map}
 use Rattle.std.proofs.lemmas.Bool.{ne_eqb}
 use Rattle.std.proofs.lemmas.List.{append-nil}
 use Rattle.std.proofs.lemmas.List.Sums.{fold-append}
-use Rattle.week_maker.specs.Draws.{state_next, state_after, drawn}
+use Rattle.seeded_draws.specs.Draws.{state_next, state_after, drawn}
 use Rattle.week_maker.specs.Rows.{Row, with_row, with_rows, rows_for_each, place_name}
 use Rattle.week_maker.specs.MadeWeeks.{made_order, order_of}
 
@@ -67,18 +67,3 @@ order-next seed i state s =
 -- the name of a place that is not the depot
 pub place-name-other : (place : ℕ) → place ≢ 0 → place_name place ≡ codes "P" ++ decimal place
 place-name-other place other = rw (ne_eqb place 0 other) refl
-
--- the state after some draws and then more
-state-on : (seed before more : ℕ) → state_after (state_after seed before) more ≡ state_after seed (before + more)
-state-on seed before zero = let same : before + 0 ≡ before = omega arith in rw same refl
-state-on seed before (suc more) =
-    let next : before + suc more ≡ suc (before + more) = omega arith in
-    rw next (ap state_next (state-on seed before more))
-
--- draws from a state that others have left
-pub drawn-on : (seed before others size : ℕ) → drawn (state_after seed before) others size ≡ drawn seed (before + others) size
-drawn-on seed before others size = ap (λ (state : ℕ). state_next state / 2 ^ 33 % size) (state-on seed before others)
-
--- a draw is below its size
-pub drawn-below : (seed others size : ℕ) → 0 < size → drawn seed others size < size
-drawn-below seed others size some = mod-lt _ some

@@ -4,7 +4,7 @@ use Rattle.jiff_core.specs.Calendar.{days_from_civil, day_count, days_of_years, 
 use Rattle.minute_line.specs.DateText.{IsDateText, IsClockText, IsStampText, stamp_minutes, text_day, IsMondayText}
 use Rattle.minute_line.specs.DateWriting.{AreDaysOf}
 use Rattle.minute_line.proofs.StampTexts.{stamp_is_minute, seven_days}
-use Rattle.week_maker.specs.Draws.{state_after}
+use Rattle.seeded_draws.specs.Draws.{state_after}
 use Rattle.week_maker.specs.MadeWeeks.{week_dates, week_monday, rest_end, order_of, order_seed}
 use Rattle.week_maker.specs.Stamps.{IsWeekReadBack}
 use Rattle.week_maker.proofs.Ranges.{order-in-range}

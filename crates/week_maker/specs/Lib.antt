@@ -1,4 +1,3 @@
-pub mod Draws
 pub mod Rows
 pub mod MadeWeeks
 pub mod Ranges

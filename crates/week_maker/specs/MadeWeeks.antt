@@ -3,7 +3,7 @@ use Rattle.std.specs.Prelude.{ℕ, ◌+◌, ◌-◌, ◌*◌, List, [], ◌∷�
 use Rattle.std.specs.Fmt.{decimal}
 use Rattle.minute_line.specs.DateWriting.{stamp_text}
 use Rattle.week_maker.specs.declared.orders.MadeOrder.{MadeOrder}
-use Rattle.week_maker.specs.Draws.{state_after, drawn}
+use Rattle.seeded_draws.specs.Draws.{state_after, drawn}
 use Rattle.week_maker.specs.Rows.{Row, with_rows, rows_for_each, place_name, driver_name, order_name}
 
 -- the Monday of the week, as text

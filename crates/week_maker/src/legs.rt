@@ -1,12 +1,12 @@
 // The places and the legs between them.
-ghost use Rattle.std.specs.Prelude.{◌≡◌, ◌+◌, ◌∷◌, [], ◌<◌, OnOk, codes};
-ghost use Rattle.week_maker.specs.Draws.{state_after};
-ghost use Rattle.week_maker.specs.Rows.{place_name, with_row, with_rows, rows_for_each};
+ghost use Rattle.std.specs.Prelude.{◌≡◌, ◌+◌, ◌∷◌, [], ◌<◌, OnOk};
+ghost use Rattle.seeded_draws.specs.Draws.{state_after};
+ghost use Rattle.week_maker.specs.Rows.{with_row, with_rows, rows_for_each};
 ghost use Rattle.week_maker.specs.MadeWeeks.{place_row, leg_row, both_ways, hub_legs, ring_legs};
 
-use crate::draws::Draws;
 use crate::rows::{push_number_field, push_place};
 use minute_line::{Bytes, Memory};
+use seeded_draws::Draws;
 
 /// Cents of a leg for each of its minutes.
 const CENTS: u32 = 40;

@@ -2,7 +2,6 @@
 //! 00:00 UTC, money is in cents, loads are in kg.
 #![tactic(auto)]
 
-mod draws;
 mod drivers;
 mod laws;
 mod legs;
@@ -12,5 +11,5 @@ mod rows;
 mod tests;
 mod weeks;
 
-pub use laws::{draws_go_on, made_stamps_are_read_back, made_weeks_are_in_range};
+pub use laws::{made_stamps_are_read_back, made_weeks_are_in_range};
 pub use weeks::make_week;

@@ -1,13 +1,13 @@
 // The orders: what is drawn for each, and its row.
-ghost use Rattle.std.specs.Prelude.{◌≡◌, ◌+◌, ◌*◌, ◌<◌, ◌∷◌, [], OnOk};
-ghost use Rattle.week_maker.specs.Draws.{state_after};
+ghost use Rattle.std.specs.Prelude.{◌≡◌, ◌+◌, ◌*◌, ◌<◌, OnOk};
+ghost use Rattle.seeded_draws.specs.Draws.{state_after};
 ghost use Rattle.week_maker.specs.Rows.{with_row, with_rows, rows_for_each};
 ghost use Rattle.week_maker.specs.MadeWeeks.{made_order, order_row, order_rows};
 ghost use Rattle.week_maker.specs.Ranges.{IsOrderInRange};
 
-use crate::draws::Draws;
 use crate::rows::{push_field, push_name, push_number_field, push_place};
 use minute_line::{Bytes, Memory, stamp_in};
+use seeded_draws::Draws;
 
 /// The days of the week as text, Monday first.
 const DAYS: [[u8; 10]; 7] = [

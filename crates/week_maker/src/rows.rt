@@ -1,7 +1,7 @@
 // Fields and rows of a text, as the crate's rows are made of them.
 ghost use Rattle.std.specs.Prelude.{◌≡◌, ◌++◌, ◌∷◌, OnOk};
 ghost use Rattle.std.specs.Fmt.{decimal};
-ghost use Rattle.week_maker.specs.Rows.{place_name, driver_name};
+ghost use Rattle.week_maker.specs.Rows.{place_name};
 
 use minute_line::{Bytes, Memory, push_decimal};
 

@@ -1,5 +1,5 @@
 use Rattle.std.proofs.Common.{◌≡◌, ◌*◌}
-use Rattle.week_maker.specs.Draws.{state_after}
+use Rattle.seeded_draws.specs.Draws.{state_after}
 use Rattle.week_maker.specs.Rows.{with_rows, rows_for_each}
 use Rattle.week_maker.specs.MadeWeeks.{order_rows}
 use Rattle.week_maker.proofs.orders.push_orders.Given as goal

@@ -16,6 +16,7 @@ returns c =
       c.in_ok-push_places.ensures,
       c.in_ok-extend_from_slice.ensures.ok,
       c.new-text.ensures,
+      c.seeded-draws.ensures,
     ) (sym (
     six-parts [] (week_row ∷ place_row 0 ∷ []) (rows_for_each 12 (λ place. place_row place ∷ [])) (rows_for_each 12 (hub_legs c.args.seed))
     (rows_for_each 11 (ring_legs (ring_seed c.args.seed))) (rows_for_each 12 driver_rows)

@@ -1,5 +1,0 @@
-use Rattle.std.proofs.Common.{◌≤◌}
-use Rattle.cheap_plans.proofs.draws.used.Given as goal
-
-abbrev pub invariant-loop-duty : goal.invariant-loop-duty
-invariant-loop-duty l = l.count ≤ l.duty-index

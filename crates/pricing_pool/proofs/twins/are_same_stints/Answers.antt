@@ -1,7 +1,0 @@
-use Rattle.std.proofs.Common.{rules}
-use Rattle.std.proofs.lemmas.Slice.Eq.{slice_eq-Decides}
-use Rattle.minute_line.specs.declared.marks.Stint.{Stint}
-use Rattle.pricing_pool.proofs.twins.are_same_stints.Goals as goal
-
-pub returns : goal.returns
-returns c = (slice_eq-Decides (λ (a b : Stint). search rules) c.args.one.now c.args.other.now c.eq.result c.eq.ensures).0

@@ -1,8 +1,0 @@
-use Rattle.week_maker.proofs.GrowingText.{drawn-below, drawn-on}
-use Rattle.week_maker.proofs.laws.draws_go_on.Goals as goal
-
-pub returns-clause-below : goal.returns-clause-below
-returns-clause-below c = drawn-below
-
-pub returns-clause-on : goal.returns-clause-on
-returns-clause-on c = drawn-on
