@@ -92,7 +92,19 @@ fn kept_after<B: Keeper>(
     }
 }
 
-// Of two weeks, the second is drafted twice and published.
+// The receipt and the revision of a week's issue, or zeros where there is none.
+fn issued<B: Keeper>(
+    keeper: &mut B,
+    alloc: Global,
+    monday: Monday,
+) -> Result<(u64, u64), KeeperError> {
+    match keeper.published(alloc, monday)? {
+        Some(issue) => Ok((issue.receipt, issue.revision)),
+        None => Ok((0, 0)),
+    }
+}
+
+// Of two weeks, the second is drafted twice and published, then the first, which moves their driver once more.
 #[test]
 fn a_draft_is_published_once_and_moves_its_driver_on(rt: HostRuntime) -> Result<(), Fail> {
     let alloc = rt.alloc();
@@ -108,6 +120,9 @@ fn a_draft_is_published_once_and_moves_its_driver_on(rt: HostRuntime) -> Result<
     assert_eq!(rt; put(&mut keeper, alloc, second), Ok(0));
     assert_eq!(rt; kept_after(&mut keeper, alloc, second), Ok(7));
     assert_eq!(rt; publish(&mut keeper, alloc, first), Ok(2));
+    assert_eq!(rt; kept_after(&mut keeper, alloc, first), Ok(7));
+    assert_eq!(rt; issued(&mut keeper, alloc, first), Ok((2, 1)));
+    assert_eq!(rt; issued(&mut keeper, alloc, second), Ok((1, 2)));
     assert_eq!(rt;
         (
             keeper.histories.len(),
@@ -117,6 +132,24 @@ fn a_draft_is_published_once_and_moves_its_driver_on(rt: HostRuntime) -> Result<
         (1, 0, 2)
     );
     assert_eq!(rt; keeper.faults, 0);
+    Ok(())
+}
+
+// A week whose last draft is the last that it may have.
+#[test]
+fn the_last_revision_is_published_and_has_no_next(rt: HostRuntime) -> Result<(), Fail> {
+    let alloc = rt.alloc();
+    let monday = read_monday("2026-03-02").ok_or("a Monday")?;
+    let mut keeper = keeper(alloc, 0).ok().ok_or("memory")?;
+    let last = draft_of(alloc, monday, DRAFT_LIMIT).ok().ok_or("memory")?;
+    keeper
+        .drafts
+        .push(last.ok_or("a draft")?)
+        .ok()
+        .ok_or("memory")?;
+    assert_eq!(rt; put(&mut keeper, alloc, monday), Ok(0));
+    assert_eq!(rt; publish(&mut keeper, alloc, monday), Ok(1));
+    assert_eq!(rt; issued(&mut keeper, alloc, monday), Ok((1, DRAFT_LIMIT)));
     Ok(())
 }
 

@@ -1,6 +1,6 @@
 -- Calls within a transaction, one after another, commit nothing.
-use Rattle.std.proofs.Common.{◌≤◌, refl, arith}
-use Rattle.sqlite.specs.State.{State, HasCleanDisk, KeepsCommit}
+use Rattle.std.proofs.Common.{refl, arith}
+use Rattle.sqlite.specs.State.{State, HasCleanDisk}
 use Rattle.sqlite.proofs.InsideLemmas.{keeps_then}
 use Rattle.keeper_sqlite.specs.Commits.{CommitsNothing}
 
