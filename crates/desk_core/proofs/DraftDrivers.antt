@@ -25,18 +25,18 @@ abbrev pub IsMadeAt : Case → List Duty → List (Option KeptFields) → List D
 IsMadeAt case duties seen drivers k = (driver : Driver) (duty : Duty) (was : Option KeptFields) (fields : DriverFields) → slice_get case.week.drivers k ≡ Some driver
     → slice_get duties k ≡ Some duty → slice_get seen k ≡ Some was → slice_get (map driver_fields drivers) k ≡ Some fields → IsDriverAfter case k driver.name duty was fields
 
-front : {X : Type 0} (xs ys : List X) (k : ℕ) → k < length xs → slice_get (xs ++ ys) k ≡ slice_get xs k
+pub front : {X : Type 0} (xs ys : List X) (k : ℕ) → k < length xs → slice_get (xs ++ ys) k ≡ slice_get xs k
 front [] ys k l = absurd (omega arith)
 front (x ∷ xs) ys zero l = refl
 front (x ∷ xs) ys (suc k) l = front xs ys k (omega arith)
 
-last : {X : Type 0} (xs : List X) (x : X) (i : ℕ) → length xs ≡ i → slice_get (xs ++ x ∷ []) i ≡ Some x
+pub last : {X : Type 0} (xs : List X) (x : X) (i : ℕ) → length xs ≡ i → slice_get (xs ++ x ∷ []) i ≡ Some x
 last [] x zero e = refl
 last [] x (suc i) e = absurd (omega arith)
 last (y ∷ ys) x zero e = absurd (omega arith)
 last (y ∷ ys) x (suc i) e = last ys x i (omega arith)
 
-some_same : {X : Type 0} (x y : X) → ◌≡◌ {A = Option X} (Some x) (Some y) → x ≡ y
+pub some_same : {X : Type 0} (x y : X) → ◌≡◌ {A = Option X} (Some x) (Some y) → x ≡ y
 some_same x y e = cc e
 
 -- one more name

@@ -9,3 +9,10 @@ pub mod Afterwards
 pub mod PlannedWeeks
 pub mod DraftDrivers
 pub mod LastMonday
+pub mod Reasons
+pub mod OwnHistories
+pub mod PlanReasons
+pub mod Answered
+pub mod Completing
+pub mod Standing
+pub mod ReplyLists

@@ -37,7 +37,7 @@ abbrev with_text : Tables → WeekText → Result Planned Refusal
 with_text t read = revision_said read.week.monday t >>= λ revision. with_revision t read revision
 
 -- the text, the revision and the histories make what is planned
-planned-ok : (text : List ℕ) (t : Tables) (read : WeekText) (revision : ℕ) (past : List Fields) → text_said text ≡ Ok read → revision_said read.week.monday t ≡ Ok revision
+pub planned-ok : (text : List ℕ) (t : Tables) (read : WeekText) (revision : ℕ) (past : List Fields) → text_said text ≡ Ok read → revision_said read.week.monday t ≡ Ok revision
     → histories_said t read ≡ Ok past → planned text t ≡ with_histories read revision past
 planned-ok text t read revision past e f g =
     then-on (text_said text) (with_text t) read e ∙ (then-on (revision_said read.week.monday t) (with_revision t read) revision f

@@ -1,5 +1,5 @@
 -- A command stops where the keeper fails.
-use Rattle.std.proofs.Common.{◌≡◌, Option, Some, None, Result, Ok, Err, IsErr, IsErrAnd}
+use Rattle.std.proofs.Common.{◌≡◌, Option, Result, Ok, Err, IsErr, IsErrAnd}
 use Rattle.desk_keeper.specs.Tables.{Tables}
 use Rattle.desk_core.specs.declared.refusals.Refusal.{Refusal}
 use Rattle.desk_core.specs.declared.refusals.Stop.{Stop}
@@ -18,17 +18,3 @@ pub heard-on : {A B C D : Type 0} (view : A → B) (other : C → D) (answer : R
     → IsErr answer × IsErrAnd answer (λ e. e ≡ stop) → Hears view (Err stop) told holds → Comes other answer now says
 heard-on view other (Ok value) stop told now holds says h hears = absurd (cc h.0)
 heard-on view other (Err e) stop told now holds says h hears = rw h.1 (unheard view other stop told now holds says hears)
-
--- a refusal is handed on, of the same tables
-stopped : {A B C D : Type 0} (view : A → B) (other : C → D) (stop : Stop) (told now : Option Tables) (says : Tables → Result B Refusal → Type 0) (more : Tables → Result D Refusal → Type 0)
-    → now ≡ told → ((tables : Tables) (refusal : Refusal) → says tables (Err refusal) → more tables (Err refusal)) → Comes view (Err stop) told says → Comes other (Err stop) now more
-stopped view other (Refused refusal) None now says more same on h = rw same tt
-stopped view other (Refused refusal) (Some t) now says more same on h = rw same (on t refusal h)
-stopped view other Fault told now says more same on h = tt
-stopped view other Memory told now says more same on h = tt
-
-pub stopped-on : {A B C D : Type 0} (view : A → B) (other : C → D) (answer : Result C Stop) (stop : Stop) (told now : Option Tables) (says : Tables → Result B Refusal → Type 0)
-    (more : Tables → Result D Refusal → Type 0) → IsErr answer × IsErrAnd answer (λ e. e ≡ stop) → now ≡ told
-    → ((tables : Tables) (refusal : Refusal) → says tables (Err refusal) → more tables (Err refusal)) → Comes view (Err stop) told says → Comes other answer now more
-stopped-on view other (Ok value) stop told now says more h same on comes = absurd (cc h.0)
-stopped-on view other (Err e) stop told now says more h same on comes = rw h.1 (stopped view other stop told now says more same on comes)

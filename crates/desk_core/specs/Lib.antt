@@ -1,5 +1,6 @@
 pub mod Stops
 pub mod Refusing
+pub mod Causes
 pub mod Lines
 pub mod Planning
 pub mod Books
@@ -8,5 +9,8 @@ pub mod Laws
 pub mod Replies
 pub mod Issuing
 pub mod Drafting
+pub mod Answering
 pub mod WeekTexts
 pub mod Machine
+pub mod Completing
+pub mod Playing

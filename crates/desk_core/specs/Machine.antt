@@ -1,5 +1,5 @@
 -- The desk as a machine over its tables: what it replies to a command, and what the tables are then.
-use Rattle.std.specs.Prelude.{◌≡◌, ⊤, ℕ, ◌≤◌, Option, Result, Ok, Err, List, [], ◌∷◌, length}
+use Rattle.std.specs.Prelude.{◌≡◌, ⊤, Bool, true, false, ℕ, ◌≤◌, Option, Result, Ok, Err, List, [], ◌∷◌, ◌++◌, length}
 use Rattle.duty_plan.specs.declared.outcomes.Limits.{Limits}
 use Rattle.duty_plan.specs.Trees.{IsLimits}
 use Rattle.desk_io.specs.Device.{counted_up}
@@ -82,3 +82,29 @@ Plays [] before [] after = after ≡ before
 Plays (command ∷ commands) before (reply ∷ replies) after =
     (between : Tables) × Steps command before reply between × Plays commands between replies after
 Plays _ before _ after = ⊥
+
+-- what the machine answers, as a reply
+abbrev pub answered : Result (List ℕ) Refusal → Reply
+answered (Ok text) = Done text
+answered (Err refusal) = Refused refusal
+
+-- the replies to a list of commands, one after another
+abbrev pub Replied : List Command → Option Tables → List Reply → Option Tables → Type 0
+Replied [] before [] after = after ≡ before
+Replied (command ∷ commands) before (reply ∷ replies) after =
+    (between : Option Tables) × IsReply command before reply between × Replied commands between replies after
+Replied _ before _ after = ⊥
+
+-- nothing more is played after a reply: the keeper failed, or memory was wanted
+abbrev pub ends_play : Reply → Bool
+ends_play (Done text) = false
+ends_play (Refused refusal) = false
+ends_play KeeperFault = true
+ends_play Memory = true
+
+-- the last reply is one after which nothing more is played
+pub record EndsPlay (replies : List Reply) : Type 0 where
+  pub before : List Reply
+  pub last : Reply
+  pub are : replies ≡ before ++ last ∷ []
+  pub ends : ends_play last ≡ true

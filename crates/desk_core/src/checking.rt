@@ -6,6 +6,7 @@ ghost use Rattle.minute_line.specs.Histories.{fields_of};
 ghost use Rattle.minute_line.specs.Minutes.{total_of};
 ghost use Rattle.week_book.specs.Pasts.{HasPastRows};
 ghost use Rattle.desk_core.specs.Refusing.{Meets};
+ghost use Rattle.desk_core.specs.Causes.{HasCause, RefusedFor};
 ghost use Rattle.desk_core.specs.Checking.{or_fresh, broken_words, line_or_refusal, verdict_line, driver_said, drivers_said, check_said};
 
 use crate::planning::past_in;
@@ -34,6 +35,7 @@ fn line_in(alloc: Global, rows: &Many<Row>, name: &Name) -> Result<Line, Stop>
     requires { HasPastRows rows.now }
     ensures line { Meets (λ line. line.stints) result (line_or_refusal rows.now name.now) }
     ensures total { IfOk result (λ line. total_of line.stints ≤ WEEK_MINUTES) }
+    ensures cause { RefusedFor HasCause result }
 {
     match read_line(alloc, rows, name) {
         Ok(line) => Ok(line),
@@ -64,7 +66,8 @@ fn push_verdict(text: &mut Bytes, name: &Name, verdict: Verdict) -> Result<(), M
 /// Adds the line of a driver, whose history is read before what was driven.
 fn push_driver(alloc: Global, text: &mut Bytes, rows: &Many<Row>, name: &Name) -> Result<(), Stop>
     requires { HasPastRows rows.now }
-    ensures { Meets (λ _. text.new) result (driver_said rows.now text.old name.now) }
+    ensures line { Meets (λ _. text.new) result (driver_said rows.now text.old name.now) }
+    ensures cause { RefusedFor HasCause result }
 {
     let past = past_or_fresh(alloc, past_in(alloc, rows, name)?);
     let line = line_in(alloc, rows, name)?;
@@ -76,7 +79,8 @@ fn push_driver(alloc: Global, text: &mut Bytes, rows: &Many<Row>, name: &Name) -
 /// The lines of drivers, in their order.
 fn lines_in(alloc: Global, rows: &Many<Row>, names: &[Name]) -> Result<Bytes, Stop>
     requires { HasPastRows rows.now }
-    ensures { Meets (λ lines. lines) result (drivers_said rows.now [] names.now) }
+    ensures lines { Meets (λ lines. lines) result (drivers_said rows.now [] names.now) }
+    ensures cause { RefusedFor HasCause result }
 {
     let mut lines = Many::new(alloc);
     for name in names {
@@ -90,7 +94,8 @@ fn lines_in(alloc: Global, rows: &Many<Row>, names: &[Name]) -> Result<Bytes, St
 /// `fresh`.
 pub fn check_text(alloc: Global, text: &Bytes) -> Result<Bytes, Stop>
     requires { length text.now ≤ 1048576 }
-    ensures { Meets (λ lines. lines) result (check_said text.now) }
+    ensures lines { Meets (λ lines. lines) result (check_said text.now) }
+    ensures cause { RefusedFor HasCause result }
 {
     let rows = read_rows(alloc, text, Form::Check)?;
     let names = check_did(alloc, &rows)?;

@@ -1,11 +1,13 @@
 // What a week text and the tables make of a draft: the histories that its drivers are planned with, and its revision.
-ghost use Rattle.std.specs.Prelude.{◌≡◌, ◌≤◌, ◌≤ℤ◌, pos, [], length, map, option_map, IfOk, IfSome};
+ghost use Rattle.std.specs.Prelude.{◌≡◌, ◌≤◌, ◌≤ℤ◌, pos, [], None, length, map, option_map, IfOk, IfSome};
 ghost use Rattle.minute_line.specs.Histories.{fields_of};
 ghost use Rattle.week_book.specs.Pasts.{HasPastRows};
 ghost use Rattle.week_book.specs.Weeks.{IsWeek};
 ghost use Rattle.desk_keeper.specs.Tables.{kept_fields};
 ghost use Rattle.desk_keeper.specs.Entries.{history_in, revision_in};
 ghost use Rattle.desk_core.specs.Refusing.{Meets};
+ghost use Rattle.desk_core.specs.Causes.{HasCause, RefusedFor, IsWeekRefusal, IsHistoryRefusal, IsDriverRefusal};
+ghost use Rattle.desk_core.specs.Answering.{HoldsTheTexts};
 ghost use Rattle.desk_core.specs.Replies.{Comes, Hears, failed_by};
 ghost use Rattle.desk_core.specs.Drafting.{pasts_read, text_said, revision_said, weeks_between, brought_up, planned_with, all_planned_with};
 ghost use Rattle.desk_core.specs.WeekTexts.{week_text};
@@ -36,6 +38,7 @@ fn pasts_of(
     requires { HasPastRows rows.now }
     ensures read { Meets (map (option_map fields_of)) result (pasts_read rows.now [] drivers.now) }
     ensures each { IfOk result (λ pasts. length pasts ≡ length drivers.now) }
+    ensures cause { RefusedFor HasCause result }
 {
     let mut pasts = Many::new(alloc);
     for driver in drivers {
@@ -51,6 +54,7 @@ pub(crate) fn read_week_text(alloc: Global, text: &Bytes) -> Result<WeekText, St
     ensures week { IfOk result (λ read. IsWeek read.week) }
     ensures monday { IfOk result (λ read. read.week.monday.day ≤ℤ pos 47478) }
     ensures each { IfOk result (λ read. length read.past ≡ length read.week.drivers) }
+    ensures cause { RefusedFor HasCause result }
 {
     let rows = read_rows(alloc, text, Form::Plan)?;
     let week = check_week(alloc, &rows)?;
@@ -79,6 +83,7 @@ pub(crate) fn next_revision<B: Keeper>(
     monday: Monday,
 ) -> Result<u64, Stop>
     ensures answer { Comes (λ revision. revision) result (B.tables keeper.old) (λ t said. said ≡ revision_said monday t) }
+    ensures refused { RefusedFor (IsWeekRefusal monday) result }
     ensures range { IfOk result (λ revision. (1 ≤ revision) × (revision ≤ DRAFT_LIMIT)) }
     ensures tables { B.tables keeper.new ≡ B.tables keeper.old }
     ensures counts { B.faults keeper.new ≡ failed_by (B.faults keeper.old) result }
@@ -104,7 +109,8 @@ fn weeks_from(from: Monday, to: Monday) -> u32
 
 /// A kept history, brought up to a Monday by weeks in which nothing is done.
 fn bring_up(alloc: Global, monday: Monday, name: &Name, kept: &Kept) -> Result<History, Stop>
-    ensures { Meets fields_of result (brought_up monday.day name.now (kept_fields kept.now)) }
+    ensures history { Meets fields_of result (brought_up monday.day name.now (kept_fields kept.now)) }
+    ensures refused { RefusedFor (IsHistoryRefusal monday name.now None) result }
 {
     if kept.monday.day <= monday.day {
         let weeks = weeks_from(kept.monday, monday);
@@ -122,7 +128,9 @@ fn history_with(
     past: &Option<History>,
     kept: &Option<Kept>,
 ) -> Result<History, Stop>
-    ensures { Meets fields_of result (planned_with monday.day name.now (option_map fields_of past.now) (option_map kept_fields kept.now)) }
+    ensures history { Meets fields_of result (planned_with monday.day name.now (option_map fields_of past.now) (option_map kept_fields kept.now)) }
+    ensures own { IfOk result (λ with. IfSome past.now (λ own. fields_of with ≡ fields_of own)) }
+    ensures refused { RefusedFor (IsHistoryRefusal monday name.now (option_map fields_of past.now)) result }
 {
     match (past, kept) {
         (Some(past), None) => Ok(copy_history(alloc, past)?),
@@ -155,6 +163,8 @@ fn history_for<B: Keeper>(
 ) -> Result<Found, Stop>
     ensures answer { Comes (λ found. fields_of found.past) result (B.tables keeper.old)
         (λ t said. said ≡ planned_with monday.day name.now (option_map fields_of past.now) (history_in t name.now)) }
+    ensures own { IfOk result (λ found. IfSome past.now (λ own. fields_of found.past ≡ fields_of own)) }
+    ensures refused { RefusedFor (IsHistoryRefusal monday name.now (option_map fields_of past.now)) result }
     ensures seen { IfOk result (λ found. IfSome (B.tables keeper.old) (λ t. option_map kept_fields found.seen ≡ history_in t name.now)) }
     ensures tables { B.tables keeper.new ≡ B.tables keeper.old }
     ensures counts { B.faults keeper.new ≡ failed_by (B.faults keeper.old) result }
@@ -184,6 +194,8 @@ pub(crate) fn histories_for<B: Keeper>(
     requires { length pasts.now ≡ length drivers.now }
     ensures answer { Comes (λ all. map fields_of all.past) result (B.tables keeper.old)
         (λ t said. said ≡ all_planned_with monday.day t [] drivers.now (map (option_map fields_of) pasts.now)) }
+    ensures own { IfOk result (λ all. HoldsTheTexts (map (option_map fields_of) pasts.now) (map fields_of all.past)) }
+    ensures refused { RefusedFor (IsDriverRefusal monday drivers.now (map (option_map fields_of) pasts.now)) result }
     ensures seen { IfOk result (λ all. IfSome (B.tables keeper.old)
         (λ t. map (option_map kept_fields) all.seen ≡ map (λ driver. history_in t driver.name) drivers.now)) }
     ensures each { IfOk result (λ all. (length all.past ≡ length drivers.now) × (length all.seen ≡ length drivers.now)) }

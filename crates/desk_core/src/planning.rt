@@ -3,8 +3,9 @@ ghost use Rattle.std.specs.Prelude.{◌≡◌, ◌≤◌, length, map, option_ma
 ghost use Rattle.minute_line.specs.Histories.{fields_of};
 ghost use Rattle.week_book.specs.Pasts.{HasPastRows};
 ghost use Rattle.duty_plan.specs.Duties.{IsCase};
-ghost use Rattle.duty_plan.specs.Trees.{IsLimits};
+ghost use Rattle.duty_plan.specs.Trees.{IsLimits, IsRight};
 ghost use Rattle.desk_core.specs.Refusing.{Meets};
+ghost use Rattle.desk_core.specs.Causes.{HasCause, RefusedFor};
 ghost use Rattle.desk_core.specs.Planning.{past_or_refusal, pasts_said, all_said, histories_said, nobody, with_driver, case_said};
 ghost use Rattle.desk_core.specs.Books.{gathered, book, Reports};
 
@@ -12,7 +13,7 @@ use crate::refusals::{Refusal, Stop, stop_past};
 use desk_csv::{Form, read_rows};
 use desk_report::body;
 use driver_history::read_past;
-use duty_plan::{Case, Gate, Limits, Planner};
+use duty_plan::{Case, Gate, Limits, Outcome, Planner};
 use minute_line::{Bytes, History, Many, Memory, Name};
 use std::alloc::Global;
 use std::thread::Threads;
@@ -21,7 +22,8 @@ use week_book::{Driver, Row, check_week};
 /// The history that a driver's rows make, or none where there are no such rows.
 pub(crate) fn past_in(alloc: Global, rows: &Many<Row>, name: &Name) -> Result<Option<History>, Stop>
     requires { HasPastRows rows.now }
-    ensures { Meets (λ past. option_map fields_of past) result (past_or_refusal rows.now name.now) }
+    ensures past { Meets (λ past. option_map fields_of past) result (past_or_refusal rows.now name.now) }
+    ensures cause { RefusedFor HasCause result }
 {
     match read_past(alloc, rows, name) {
         Ok(past) => Ok(past),
@@ -59,7 +61,8 @@ fn add_driver(
 /// The histories that the rows make for the drivers.
 fn pasts_in(alloc: Global, rows: &Many<Row>, drivers: &[Driver]) -> Result<Pasts, Stop>
     requires { HasPastRows rows.now }
-    ensures { Meets gathered result (pasts_said rows.now nobody drivers.now) }
+    ensures pasts { Meets gathered result (pasts_said rows.now nobody drivers.now) }
+    ensures cause { RefusedFor HasCause result }
 {
     let mut pasts = Pasts {
         past: Many::new(alloc),
@@ -74,7 +77,8 @@ fn pasts_in(alloc: Global, rows: &Many<Row>, drivers: &[Driver]) -> Result<Pasts
 
 /// The histories, where each driver has one.
 fn all_in(pasts: Pasts) -> Result<Many<History>, Stop>
-    ensures { Meets (λ past. map fields_of past) result (all_said (gathered pasts)) }
+    ensures all { Meets (λ past. map fields_of past) result (all_said (gathered pasts)) }
+    ensures cause { RefusedFor HasCause result }
 {
     let Pasts { past, missing } = pasts;
     match missing {
@@ -88,6 +92,7 @@ fn histories_in(alloc: Global, rows: &Many<Row>, drivers: &[Driver]) -> Result<M
     requires { HasPastRows rows.now }
     ensures histories { Meets (λ past. map fields_of past) result (histories_said rows.now drivers.now) }
     ensures each { IfOk result (λ past. length past ≡ length drivers.now) }
+    ensures cause { RefusedFor HasCause result }
 {
     let pasts = pasts_in(alloc, rows, drivers)?;
     all_in(pasts)
@@ -98,11 +103,40 @@ pub fn read_case(alloc: Global, text: &Bytes) -> Result<Case, Stop>
     requires { length text.now ≤ 1048576 }
     ensures case { Meets book result (case_said text.now) }
     ensures valid { IfOk result IsCase }
+    ensures cause { RefusedFor HasCause result }
 {
     let rows = read_rows(alloc, text, Form::Plan)?;
     let week = check_week(alloc, &rows)?;
     let past = histories_in(alloc, &rows, week.drivers.as_slice())?;
     Ok(Case { week, past })
+}
+
+/// A planned week: its case, and an outcome that was found for it.
+#[derive(Drop)]
+pub struct Solved {
+    pub case: Case,
+    pub outcome: Outcome,
+}
+
+/// The week of a week text, planned within the limits. Each history that it is planned with stands in the text.
+pub fn solve_text<R: Threads + Sync, P: Planner>(
+    rt: &R,
+    gate: &(dyn Gate + Sync),
+    alloc: Global,
+    text: &Bytes,
+    limits: &Limits,
+    planner: &mut P,
+) -> Result<Solved, Stop>
+    requires text { length text.now ≤ 1048576 }
+    requires limits { IsLimits limits.now }
+    ensures case { Meets (λ solved. book solved.case) result (case_said text.now) }
+    ensures valid { IfOk result (λ solved. IsCase solved.case) }
+    ensures right { IfOk result (λ solved. IsRight solved.case limits.now solved.outcome) }
+    ensures cause { RefusedFor HasCause result }
+{
+    let case = read_case(alloc, text)?;
+    let outcome = planner.solve(rt, gate, alloc, &case, limits)?;
+    Ok(Solved { case, outcome })
 }
 
 /// The report of a week text: that of an outcome that the planner finds for its case within the limits.

@@ -1,5 +1,5 @@
 // The publication of a draft.
-ghost use Rattle.std.specs.Prelude.{◌≡◌, ◌≢◌, ◌≤◌, ◌+◌, ◌++◌, ◌∷◌, [], vec_len, vec_capacity, map, codes, IsTrue, ◌↔◌, IfOk, IfSome, option_map};
+ghost use Rattle.std.specs.Prelude.{◌≡◌, ◌≢◌, ℕ, ◌≤◌, ◌+◌, ◌++◌, ◌∷◌, [], vec_len, vec_capacity, map, codes, IsTrue, ◌↔◌, IfOk, IfSome, option_map};
 ghost use Rattle.std.specs.Fmt.{decimal};
 ghost use Rattle.minute_line.specs.Histories.{fields_of};
 ghost use Rattle.minute_line.specs.DateWriting.{IsDayText};
@@ -7,7 +7,8 @@ ghost use Rattle.desk_keeper.specs.Tables.{kept_fields, driver_fields};
 ghost use Rattle.desk_keeper.specs.Records.{draft_fields};
 ghost use Rattle.desk_keeper.specs.Entries.{draft_in, issue_in};
 ghost use Rattle.desk_keeper.specs.Changes.{IsStanding};
-ghost use Rattle.desk_core.specs.Issuing.{draft_said, ExpectsAsSeen};
+ghost use Rattle.desk_core.specs.Causes.{RefusedFor, IsMoved, IsIssueRefusal};
+ghost use Rattle.desk_core.specs.Issuing.{draft_said, ExpectsAsSeen, IsPublication};
 ghost use Rattle.desk_core.specs.Replies.{Comes, IsOutcome, failed_by};
 ghost use Rattle.desk_core.specs.Machine.{Issues};
 
@@ -84,6 +85,7 @@ fn draft_at<B: Keeper>(
 ) -> Result<Draft, Stop>
     ensures answer { Comes draft_fields result (B.tables keeper.old)
         (λ t said. said ≡ draft_said monday revision (issue_in t monday.day) (draft_in t monday.day)) }
+    ensures refused { RefusedFor (IsIssueRefusal monday revision) result }
     ensures standing { IfOk result (λ draft. IfSome (B.tables keeper.new) (IsStanding (draft_fields draft))) }
     ensures tables { B.tables keeper.new ≡ B.tables keeper.old }
     ensures counts { B.faults keeper.new ≡ failed_by (B.faults keeper.old) result }
@@ -108,6 +110,7 @@ fn expect_as_seen<B: Keeper>(
     drivers: &[DraftDriver],
 ) -> Result<(), Stop>
     ensures answer { Comes (λ _. tt) result (B.tables keeper.old) (λ t said. ExpectsAsSeen t (map driver_fields drivers.now) said) }
+    ensures refused { RefusedFor IsMoved result }
     ensures tables { B.tables keeper.new ≡ B.tables keeper.old }
     ensures counts { B.faults keeper.new ≡ failed_by (B.faults keeper.old) result }
     ensures counted { B.faults keeper.old ≤ B.faults keeper.new }
@@ -131,6 +134,8 @@ pub(crate) fn publish<B: Keeper>(
     revision: u64,
 ) -> Result<Bytes, Stop>
     ensures step { IsOutcome (Issues monday revision) (B.tables keeper.old) result (B.tables keeper.new) }
+    ensures told { IfOk result (λ told. (receipt : ℕ) × IsPublication monday receipt told) }
+    ensures refused { RefusedFor (IsIssueRefusal monday revision) result }
     ensures counts { B.faults keeper.new ≡ failed_by (B.faults keeper.old) result }
     ensures counted { B.faults keeper.old ≤ B.faults keeper.new }
 {

@@ -1,6 +1,7 @@
 // What is shown and exported of a week.
 ghost use Rattle.std.specs.Prelude.{◌≡◌, ◌≤◌, IfOk, IfSome};
 ghost use Rattle.desk_keeper.specs.Records.{draft_fields, issue_fields};
+ghost use Rattle.desk_core.specs.Causes.{RefusedFor, IsNoDraft};
 ghost use Rattle.desk_core.specs.Issuing.{issue_report, week_said, shown, exported};
 ghost use Rattle.desk_core.specs.Replies.{Comes, failed_by};
 
@@ -29,6 +30,7 @@ fn report_of(issue: Issue) -> Result<Bytes, Memory>
 /// The report of a week: the issue's with the line of its publication, else the draft's.
 pub(crate) fn show<B: Keeper>(alloc: Global, keeper: &mut B, monday: Monday) -> Result<Bytes, Stop>
     ensures answer { Comes (λ text. text) result (B.tables keeper.old) (λ t said. said ≡ shown monday t) }
+    ensures refused { RefusedFor (IsNoDraft monday) result }
     ensures tables { B.tables keeper.new ≡ B.tables keeper.old }
     ensures counts { B.faults keeper.new ≡ failed_by (B.faults keeper.old) result }
     ensures counted { B.faults keeper.old ≤ B.faults keeper.new }
@@ -49,6 +51,7 @@ pub(crate) fn export_kept<B: Keeper>(
     monday: Monday,
 ) -> Result<Bytes, Stop>
     ensures answer { Comes (λ text. text) result (B.tables keeper.old) (λ t said. said ≡ exported monday t) }
+    ensures refused { RefusedFor (IsNoDraft monday) result }
     ensures tables { B.tables keeper.new ≡ B.tables keeper.old }
     ensures counts { B.faults keeper.new ≡ failed_by (B.faults keeper.old) result }
     ensures counted { B.faults keeper.old ≤ B.faults keeper.new }

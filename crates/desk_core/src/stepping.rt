@@ -1,8 +1,10 @@
 // One command, one step of the machine.
-ghost use Rattle.std.specs.Prelude.{◌≡◌, ◌≤◌, length, IfSome};
+ghost use Rattle.std.specs.Prelude.{◌≡◌, ◌≤◌, length, IfOk, IfSome};
 ghost use Rattle.desk_keeper.specs.Records.{draft_fields};
 ghost use Rattle.desk_keeper.specs.Changes.{IsNext};
 ghost use Rattle.duty_plan.specs.Trees.{IsLimits};
+ghost use Rattle.desk_core.specs.Causes.{HasCause, RefusedFor};
+ghost use Rattle.desk_core.specs.Answering.{IsPlannedWeek, IsPlanRefusal, IsAnswer, OnCheck};
 ghost use Rattle.desk_core.specs.Machine.{IsCommand, IsReply, Steps, Puts, Drafts, reply_said, failed_after};
 ghost use Rattle.desk_core.specs.Replies.{IsOutcome, failed_by};
 
@@ -23,6 +25,8 @@ use std::thread::Threads;
 fn put<B: Keeper>(alloc: Global, keeper: &mut B, draft: Draft) -> Result<Bytes, Stop>
     requires next { IfSome (B.tables keeper.old) (IsNext (draft_fields draft)) }
     ensures step { IsOutcome (Puts (draft_fields draft)) (B.tables keeper.old) result (B.tables keeper.new) }
+    ensures told { IfOk result (λ told. told ≡ draft.report) }
+    ensures refused { RefusedFor (λ _. ⊥) result }
     ensures counts { B.faults keeper.new ≡ failed_by (B.faults keeper.old) result }
     ensures counted { B.faults keeper.old ≤ B.faults keeper.new }
 {
@@ -43,6 +47,9 @@ fn plan<R: Threads + Sync, B: Keeper, P: Planner>(
     requires text { length text.now ≤ 1048576 }
     requires limits { IsLimits limits.now }
     ensures step { IsOutcome (Drafts limits.now text.now) (B.tables keeper.old) result (B.tables keeper.new) }
+    ensures planned { IfOk result (IsPlannedWeek limits.now text.now) }
+    ensures refused { RefusedFor (IsPlanRefusal text.now) result }
+    ensures cause { RefusedFor HasCause result }
     ensures counts { B.faults keeper.new ≡ failed_by (B.faults keeper.old) result }
     ensures counted { B.faults keeper.old ≤ B.faults keeper.new }
 {
@@ -80,6 +87,8 @@ fn run<R: Threads + Sync, B: Keeper, P: Planner>(
 ) -> Result<Bytes, Stop>
     requires { IsCommand command.now }
     ensures step { IsOutcome (Steps command.now) (B.tables keeper.old) result (B.tables keeper.new) }
+    ensures answer { IsAnswer command.now (reply_said result) }
+    ensures unasked { OnCheck command.now (keeper.new ≡ keeper.old) }
     ensures counts { B.faults keeper.new ≡ failed_by (B.faults keeper.old) result }
     ensures counted { B.faults keeper.old ≤ B.faults keeper.new }
 {
@@ -93,7 +102,9 @@ fn run<R: Threads + Sync, B: Keeper, P: Planner>(
 }
 
 /// Plays one command: one step of the desk machine over the keeper's tables, where they are told. Where the keeper fails or
-/// memory wants, the tables are as they were. None of its own work grows faster than its text, the tables and the names.
+/// memory wants, the tables are as they were. Over every keeper a refusal has its cause in the command, as far as what is kept
+/// isn't asked for, and a plan that is done is one of the text's week. None of its own work grows faster than its text, the
+/// tables and the names.
 pub fn step<R: Threads + Sync, B: Keeper, P: Planner>(
     rt: &R,
     gate: &(dyn Gate + Sync),
@@ -103,9 +114,11 @@ pub fn step<R: Threads + Sync, B: Keeper, P: Planner>(
     command: &Command,
 ) -> Reply
     requires { IsCommand command.now }
+    ensures answer { IsAnswer command.now result }
     ensures step { IsReply command.now (B.tables keeper.old) result (B.tables keeper.new) }
     ensures counts { B.faults keeper.new ≡ failed_after (B.faults keeper.old) result }
     ensures counted { B.faults keeper.old ≤ B.faults keeper.new }
+    ensures unasked { OnCheck command.now (keeper.new ≡ keeper.old) }
 {
     reply_of(run(rt, gate, alloc, keeper, planner, command))
 }

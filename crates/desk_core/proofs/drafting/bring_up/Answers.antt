@@ -6,8 +6,8 @@ use Rattle.desk_core.specs.Drafting.{later}
 use Rattle.desk_core.specs.declared.refusals.Refusal.TheVariants as because
 use Rattle.desk_core.proofs.drafting.bring_up.Goals as goal
 
-pub returns : goal.returns
-returns c =
+pub returns-clause-history : goal.returns-clause-history
+returns-clause-history c =
     let kept = c.args.kept.now.monday in
     let name = c.in_ok-name.ensures ∙ c.as_slice.ensures in
     let past : int_le kept.day c.args.monday.day ≡ false = grind (arith, ints) in

@@ -3,6 +3,7 @@ use Rattle.minute_line.specs.Histories.{fields_of}
 use Rattle.desk_keeper.specs.Tables.{kept_fields}
 use Rattle.desk_keeper.specs.Entries.{history_in}
 use Rattle.desk_core.specs.Drafting.{all_planned_with}
+use Rattle.desk_core.proofs.OwnHistories.{HoldsBelow}
 use Rattle.desk_core.proofs.drafting.histories_for.Given as goal
 
 abbrev pub invariant-loop-i : goal.invariant-loop-i
@@ -15,4 +16,5 @@ invariant-loop-i g l = record {
   seen : IfSome (g.B.Keeper.tables l.fn.keeper) (λ t.
       map (option_map kept_fields) l.seen ≡ map (λ driver. history_in t driver.name) (take l.i l.drivers));
   each : (length l.past ≡ l.i) × (length l.seen ≡ l.i);
+  own : HoldsBelow (map (option_map fields_of) l.pasts) (map fields_of l.past) l.i;
 }

@@ -12,12 +12,12 @@ returns-in_err-past_in-clause-read c =
     (λ refusal refused.
     read-stop c.args.rows.now (map (option_map fields_of) c.loop-driver.pasts) c.args.drivers.now c.loop-driver.driver-index c.driver-item.result c.driver-item.result refusal
     c.loop-driver-test.true c.driver-item.is c.loop-driver.invariant.read refused)
-    c.in_err-past_in.ensures)
+    c.in_err-past_in.ensures.past)
 
 pub loop-driver-preserved : goal.loop-driver-preserved
 loop-driver-preserved c = record {
   read = read-on c.args.rows.now (map (option_map fields_of) c.loop-driver.pasts) (map (option_map fields_of) c.push.new.self) c.args.drivers.now c.loop-driver.driver-index
       c.driver-item.result c.driver-item.result (option_map fields_of c.in_ok-past_in.field-0) c.loop-driver-test.true c.driver-item.is c.loop-driver.invariant.read
-      c.in_ok-past_in.ensures (viewed-more (option_map fields_of) c.loop-driver.pasts c.push.new.self c.in_ok-past_in.field-0 c.in_ok-push.ensures.ok);
+      c.in_ok-past_in.ensures.past (viewed-more (option_map fields_of) c.loop-driver.pasts c.push.new.self c.in_ok-past_in.field-0 c.in_ok-push.ensures.ok);
   each = omega (arith, simp length-append at (ap length c.in_ok-push.ensures.ok));
 }
