@@ -39,7 +39,8 @@ pub(crate) fn price_shared<R: Threads + Sync>(
     ensures empty { All IsEmpty scratches.new.items }
     ensures seats { IfOk result (λ done. length done.1 ≡ length seats) }
     ensures ready { IfOk result (λ done. All (IsReady asked.now.round.now.name) done.1) }
-    ensures round { IfOk result (λ done. (counter : ℕ) → ((number : ℕ) → total (λ seat. times number seat.drawn) done.1 ≡ once_below number counter)
+    ensures round { IfOk result (λ done. (counter : ℕ) →
+        ((number : ℕ) → total (λ seat. times number seat.drawn) done.1 ≡ once_below number counter)
         → IsRound asked.now.round.now.chunks asked.now.case.now asked.now.pairs.now asked.now.prices.now done.0) }
 {
     let mut workers = staff(alloc, asked, classes, seats.into_vec(), scratches)?;

@@ -16,7 +16,8 @@ fn have_same_rows(case: &Case, pairs: &Pairs, one: u32, other: u32) -> bool
     requires pairs { IsPairs case.now.week pairs.now }
     requires one { one < length case.now.week.drivers }
     requires other { other < length case.now.week.drivers }
-    ensures { IsTrue result → ((order : ℕ) → order < length case.now.week.orders → pair_at pairs.now one order ≡ pair_at pairs.now other order) }
+    ensures { IsTrue result → ((order : ℕ) → order < length case.now.week.orders →
+        pair_at pairs.now one order ≡ pair_at pairs.now other order) }
 {
     'comparing: for order in 0..case.week.orders.len() as u32 {
         if pairs.pair(&case.week, one, order) != pairs.pair(&case.week, other, order) {

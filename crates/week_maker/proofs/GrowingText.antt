@@ -1,12 +1,12 @@
 -- A text grows row by row, with the numbers that are drawn for its rows.
-use Rattle.std.proofs.Common.{mod-lt, ◌≡◌, ◌≢◌, ℕ, zero, suc, ◌+◌, ◌-◌, ◌*◌, ◌/◌, ◌%◌, ◌^◌, ◌<◌, List, [], ◌∷◌, ◌++◌, codes, ap, append_assoc, refl, sym, ◌∙◌, add-one, arith}
+use Rattle.std.proofs.Common.{◌≡◌, ◌≢◌, ℕ, suc, ◌+◌, ◌-◌, ◌*◌, List, [], ◌∷◌, ◌++◌, codes, ap, append_assoc, refl, sym, ◌∙◌, add-one, arith}
 use Rattle.std.specs.Fmt.{decimal}
 use Rattle.std.specs.Prelude.{fold}
 use Rattle.std.specs.List.{flat_map}
 use Rattle.std.proofs.lemmas.Bool.{ne_eqb}
 use Rattle.std.proofs.lemmas.List.{append-nil}
 use Rattle.std.proofs.lemmas.List.Sums.{fold-append}
-use Rattle.seeded_draws.specs.Draws.{state_next, state_after, drawn}
+use Rattle.seeded_draws.specs.Draws.{state_after, drawn}
 use Rattle.week_maker.specs.Rows.{Row, with_row, with_rows, rows_for_each, place_name}
 use Rattle.week_maker.specs.MadeWeeks.{made_order, order_of}
 
