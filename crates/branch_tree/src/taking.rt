@@ -14,9 +14,9 @@ ghost use Rattle.branch_tree.specs.Leaving.{IsTaken};
 ghost use Rattle.branch_tree.specs.Taking.{AreDutiesOf, AreLawful, ArePooled};
 
 use crate::keeping::{Kept, offer};
-use duty_plan::{Case, Duty, Plan, Priced};
+use duty_plan::{Case, Duty, Plan, Priced, copied_duty};
 use minute_line::{Many, Memory};
-use price_master::{Picked, Pool, copied_duty, pick, rest};
+use price_master::{Picked, Pool, pick, rest};
 use std::alloc::Global;
 
 /// A copy of the answer's duty, or the empty duty.

@@ -7,6 +7,7 @@ use Rattle.desk_core.specs.declared.commands.Command.TheVariants as ask
 use Rattle.desk_core.specs.declared.commands.Reply.{Reply}
 use Rattle.desk_core.specs.declared.commands.Reply.TheVariants as reply
 use Rattle.desk_core.specs.declared.refusals.Refusal.{Refusal}
+use Rattle.desk_core.specs.Answering.{IsAnswer}
 use Rattle.desk_core.specs.Machine.{IsReply, Steps}
 use Rattle.desk_core.specs.Replies.{IsDone}
 use Rattle.desk_http.specs.declared.answers.Answer.{Answer}
@@ -34,10 +35,10 @@ unsaid_stays command before after reply.KeeperFault done unsaid = absurd unsaid
 unsaid_stays command before after reply.Memory done unsaid = done
 
 pub answered : (request : List ℕ) (command : Command) (before after : Option Tables) (said : Reply) (result : Result Answer Memory)
-    → ((asked : Result Command Early) × Asks request asked × (asked ≡ Ok command)) → IsReply command before said after
+    → ((asked : Result Command Early) × Asks request asked × (asked ≡ Ok command)) → IsReply command before said after → IsAnswer command said
     → IfOk result (IsReplied command said) → OnErr result (IsUnsaid said) → Answers request before result after
-answered request command before after said (Ok answer) (asked, asks, is) done ok err = (asked, asks, rw is (said, done, ok))
-answered request command before after said (Err memory) asked done ok err = unsaid_stays command before after said done err
+answered request command before after said (Ok answer) (asked, asks, is) done because ok err = (asked, asks, rw is (said, done, because, ok))
+answered request command before after said (Err memory) asked done because ok err = unsaid_stays command before after said done err
 
 pub answered_early : (request : List ℕ) (early : Early) (before : Option Tables) (result : Result Answer Memory)
     → ((asked : Result Command Early) × Asks request asked × (asked ≡ Err early)) → IfOk result (HasBody (kind_of early) (early_line early))

@@ -4,6 +4,7 @@ use Rattle.minute_line.specs.declared.many.Memory.{Memory}
 use Rattle.desk_io.specs.Device.{counted_up}
 use Rattle.desk_keeper.specs.Tables.{Tables}
 use Rattle.desk_core.specs.Lines.{IsRefusalText}
+use Rattle.desk_core.specs.Answering.{IsAnswer}
 use Rattle.desk_core.specs.Machine.{IsReply}
 use Rattle.desk_core.specs.declared.commands.Command.{Command}
 use Rattle.desk_core.specs.declared.commands.Command.TheVariants as ask
@@ -52,10 +53,11 @@ IsUnsaid (reply.Refused refusal) = ⊤
 IsUnsaid reply.KeeperFault = ⊥
 IsUnsaid reply.Memory = ⊤
 
--- the answer to what a request asks for, with the tables before and after it
+-- the answer to what a request asks for, with the tables before and after it: a step of the machine where the tables are told, and a reply
+-- that has its cause over every keeper
 abbrev pub IsAnswered : Result Command Early → Option Tables → Answer → Option Tables → Type 0
 IsAnswered (Err early) before answer after = HasBody (kind_of early) (early_line early) answer × (after ≡ before)
-IsAnswered (Ok command) before answer after = (said : Reply) × IsReply command before said after × IsReplied command said answer
+IsAnswered (Ok command) before answer after = (said : Reply) × IsReply command before said after × IsAnswer command said × IsReplied command said answer
 
 -- the answer to a request, with the tables before and after it
 abbrev pub IsAnswerTo : List ℕ → Option Tables → Answer → Option Tables → Type 0

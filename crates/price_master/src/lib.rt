@@ -17,7 +17,6 @@ mod tests;
 mod valuing;
 
 pub use completing::{rest, serves_in};
-pub use duty_plan::copied_duty;
 pub use laws::{below_plans, costs_alone, is_exact, never_falls};
 pub use moving::{next_prices, subgradient_step};
 pub use picking::{Picked, pick};

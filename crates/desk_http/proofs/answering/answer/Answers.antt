@@ -9,7 +9,7 @@ pub returns-in-Ok-clause-answer : goal.returns-in-Ok-clause-answer
 returns-in-Ok-clause-answer g c =
     let asked = subst (λ (r : List ℕ). (said : Result Command Early) × Asks r said × (said ≡ Ok c.in-Ok.command)) c.as_slice.ensures c.in-Ok.ensures.asked in
     answered c.args.request.now c.in-Ok.command (g.B.Keeper.tables c.args.keeper.now) (g.B.Keeper.tables c.step-reply.new.keeper) c.step-reply.result c.reply_answer.result
-    asked c.step-reply.ensures.step c.reply_answer.ensures.ok c.reply_answer.ensures.err
+    asked c.step-reply.ensures.step c.step-reply.ensures.answer c.reply_answer.ensures.ok c.reply_answer.ensures.err
 
 pub returns-in-Err-Early-clause-answer : goal.returns-in-Err-Early-clause-answer
 returns-in-Err-Early-clause-answer g c =
