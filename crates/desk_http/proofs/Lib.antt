@@ -1,0 +1,10 @@
+pub mod Firsts
+pub mod Stays
+pub mod Written
+pub mod SmallPowers
+pub mod SaidMondays
+pub mod Named
+pub mod Asked
+pub mod Answered
+pub mod Connections
+pub mod Plans
