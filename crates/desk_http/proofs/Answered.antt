@@ -35,10 +35,10 @@ unsaid_stays command before after reply.KeeperFault done unsaid = absurd unsaid
 unsaid_stays command before after reply.Memory done unsaid = done
 
 pub answered : (request : List ℕ) (command : Command) (before after : Option Tables) (said : Reply) (result : Result Answer Memory)
-    → ((asked : Result Command Early) × Asks request asked × (asked ≡ Ok command)) → IsReply command before said after → IsAnswer command said
-    → IfOk result (IsReplied command said) → OnErr result (IsUnsaid said) → Answers request before result after
-answered request command before after said (Ok answer) (asked, asks, is) done because ok err = (asked, asks, rw is (said, done, because, ok))
-answered request command before after said (Err memory) asked done because ok err = unsaid_stays command before after said done err
+    → ((asked : Result Command Early) × Asks request asked × (asked ≡ Ok command)) → IsReply command before said after
+    → IsAnswer command said → IfOk result (IsReplied command said) → OnErr result (IsUnsaid said) → Answers request before result after
+answered request command before after said (Ok answer) (asked, asks, is) done caused ok err = (asked, asks, rw is (said, done, caused, ok))
+answered request command before after said (Err memory) asked done caused ok err = unsaid_stays command before after said done err
 
 pub answered_early : (request : List ℕ) (early : Early) (before : Option Tables) (result : Result Answer Memory)
     → ((asked : Result Command Early) × Asks request asked × (asked ≡ Err early)) → IfOk result (HasBody (kind_of early) (early_line early))

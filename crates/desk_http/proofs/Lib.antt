@@ -7,3 +7,4 @@ pub mod Named
 pub mod Asked
 pub mod Answered
 pub mod Connections
+pub mod Plans

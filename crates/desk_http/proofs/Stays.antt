@@ -16,7 +16,7 @@ head_more : (request more : List ℕ) (head : RequestHead) (rest : List ℕ) →
 head_more request more head rest has =
     record { reads = ReadsRequest-append request head rest more has.reads; short = has.short; few = has.few }
 
-same_asks : (all request : List ℕ) → all ≡ request → AsksAs all request
+pub same_asks : (all request : List ℕ) → all ≡ request → AsksAs all request
 same_asks all request same asked asks = subst (λ (r : List ℕ). Asks r asked) (sym same) asks
 
 headless : (request more : List ℕ) → IsHeadSettled request → HasNoHead request → HasNoHead (request ++ more)

@@ -4,7 +4,7 @@ use Rattle.minute_line.specs.declared.many.Memory.{Memory}
 use Rattle.desk_io.specs.Device.{counted_up}
 use Rattle.desk_keeper.specs.Tables.{Tables}
 use Rattle.desk_core.specs.Lines.{IsRefusalText}
-use Rattle.desk_core.specs.Answering.{IsAnswer}
+use Rattle.desk_core.specs.Answering.{IsAnswer, IsPlannedWeek}
 use Rattle.desk_core.specs.Machine.{IsReply}
 use Rattle.desk_core.specs.declared.commands.Command.{Command}
 use Rattle.desk_core.specs.declared.commands.Command.TheVariants as ask
@@ -17,7 +17,7 @@ use Rattle.desk_http.specs.declared.answers.Kind.{Kind}
 use Rattle.desk_http.specs.declared.answers.Kind.TheVariants.{Done, Bad, Lost, Conflict, Fault}
 use Rattle.desk_http.specs.declared.early.Early.{Early}
 use Rattle.desk_http.specs.Answers.{kind_of, early_line, HasBody}
-use Rattle.desk_http.specs.Requests.{Asks}
+use Rattle.desk_http.specs.Requests.{Asks, usual_limits}
 
 -- the kind of an answer to a command that found no draft: what is looked for is not there, or what is to change is not
 abbrev pub undrafted_kind : Command → Kind
@@ -53,8 +53,7 @@ IsUnsaid (reply.Refused refusal) = ⊤
 IsUnsaid reply.KeeperFault = ⊥
 IsUnsaid reply.Memory = ⊤
 
--- the answer to what a request asks for, with the tables before and after it: a step of the machine where the tables are told, and a reply
--- that has its cause over every keeper
+-- the answer to what a request asks for, with the tables before and after it; the reply is one to the command over every keeper
 abbrev pub IsAnswered : Result Command Early → Option Tables → Answer → Option Tables → Type 0
 IsAnswered (Err early) before answer after = HasBody (kind_of early) (early_line early) answer × (after ≡ before)
 IsAnswered (Ok command) before answer after = (said : Reply) × IsReply command before said after × IsAnswer command said × IsReplied command said answer
@@ -62,6 +61,12 @@ IsAnswered (Ok command) before answer after = (said : Reply) × IsReply command 
 -- the answer to a request, with the tables before and after it
 abbrev pub IsAnswerTo : List ℕ → Option Tables → Answer → Option Tables → Type 0
 IsAnswerTo request before answer after = (asked : Result Command Early) × Asks request asked × IsAnswered asked before answer after
+
+-- a week that is planned with 200 is told by the report of a lawful plan of it
+abbrev pub PlansWeek : List ℕ → Answer → Type 0
+PlansWeek request answer =
+    (text : List ℕ) → Asks request (Ok (ask.Plan text usual_limits)) → answer.status ≡ 200
+    → (report : List ℕ) × IsPlannedWeek usual_limits text report × HasBody Done report answer
 
 -- an answer to a request; or memory was wanted, and nothing changed
 abbrev pub Answers : List ℕ → Option Tables → Result Answer Memory → Option Tables → Type 0

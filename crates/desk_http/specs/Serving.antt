@@ -1,17 +1,21 @@
 -- One request of a link, and its answer: how much of a request is read, and what is written.
-use Rattle.std.specs.Prelude.{◌≡◌, ⊤, ℕ, ◌<◌, ◌≤◌, Bool, true, false, List, ◌++◌, take, length, codes, Option, IfSome, Result, Ok, Err}
+use Rattle.std.specs.Prelude.{◌≡◌, ⊤, ℕ, ◌<◌, ◌≤◌, Bool, true, false, List, ◌++◌, take, length, codes, Option, Some, IfSome, Result, Ok, Err}
 use Rattle.minute_line.specs.declared.many.Memory.{Memory}
 use Rattle.desk_io.specs.Device.{counted_up, NothingLeft, Takes}
 use Rattle.desk_keeper.specs.Tables.{Tables}
+use Rattle.desk_core.specs.Answering.{IsPlannedWeek}
 use Rattle.desk_core.specs.declared.commands.Command.{Command}
+use Rattle.desk_core.specs.declared.commands.Command.TheVariants as ask
 use Rattle.desk_http.specs.declared.answers.Answer.{Answer}
+use Rattle.desk_http.specs.declared.answers.Kind.TheVariants.{Done}
 use Rattle.desk_http.specs.declared.early.Early.{Early}
 use Rattle.desk_http.specs.declared.serving.Served.{Served}
 use Rattle.desk_http.specs.declared.serving.Served.TheVariants.{Status, ReadFault, WriteFault}
 use Rattle.desk_http.specs.declared.waiting.ReadStop.{ReadStop}
 use Rattle.desk_http.specs.declared.waiting.ReadStop.TheVariants as stop
 use Rattle.desk_http.specs.Answering.{Answers, faults_with}
-use Rattle.desk_http.specs.Requests.{Asks}
+use Rattle.desk_http.specs.Answers.{head_text}
+use Rattle.desk_http.specs.Requests.{Asks, usual_limits}
 
 -- a read came to the end of its source, or it gave some bytes
 abbrev pub MayEnd : Bool → List ℕ → Option (List ℕ) → Type 0
@@ -71,6 +75,12 @@ abbrev pub Serves : Option (List ℕ) → Option Tables → Option Tables → Op
 Serves left tables tables_after held held_after ReadFault = (tables_after ≡ tables) × (held_after ≡ held)
 Serves left tables tables_after held held_after served =
     (request : List ℕ) × IfSome left (λ all. request ≡ all) × TellsAnswer request tables tables_after held held_after served
+
+-- where all that was left asks for the plan of a week, and 200 is told, the report of a lawful plan of it was written
+abbrev pub TellsPlan : Option (List ℕ) → Option (List ℕ) → Option (List ℕ) → Served → Type 0
+TellsPlan left held held_after served =
+    (all text : List ℕ) → left ≡ Some all → Asks all (Ok (ask.Plan text usual_limits)) → served ≡ Status 200
+    → (report : List ℕ) × IsPlannedWeek usual_limits text report × Takes held (head_text Done (length report) ++ report) held_after
 
 -- how many reads failed, after a connection
 abbrev pub reads_failed : ℕ → Served → ℕ

@@ -1,6 +1,6 @@
 // The answer to a request.
-ghost use Rattle.std.specs.Prelude.{◌≡◌, ◌≤◌};
-ghost use Rattle.desk_http.specs.Answering.{Answers, faults_after};
+ghost use Rattle.std.specs.Prelude.{◌≡◌, ◌≤◌, IfOk};
+ghost use Rattle.desk_http.specs.Answering.{Answers, PlansWeek, faults_after};
 
 use crate::answers::{Answer, head_room};
 use crate::early::Halt;
@@ -24,6 +24,7 @@ pub fn answer<R: Threads + Sync, B: Keeper, P: Planner>(
     planner: &mut P,
 ) -> Result<Answer, Memory>
     ensures answer { Answers request.now (B.tables keeper.old) result (B.tables keeper.new) }
+    ensures planned { IfOk result (PlansWeek request.now) }
     ensures counts { B.faults keeper.new ≡ faults_after (B.faults keeper.old) result }
     ensures counted { B.faults keeper.old ≤ B.faults keeper.new }
 {

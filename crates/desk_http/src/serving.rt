@@ -3,7 +3,7 @@ ghost use Rattle.std.specs.Prelude.{◌≡◌, ◌≤◌, ◌<◌, ◌++◌, ℕ
 ghost use Rattle.desk_io.specs.Device.{Takes};
 ghost use Rattle.desk_io.specs.Whole.{failed_by_last};
 ghost use Rattle.desk_http.specs.Answering.{faults_with};
-ghost use Rattle.desk_http.specs.Serving.{Serves, Tells, bytes_of, status_of, reads_failed, writes_failed, outcome_said, no_memory, CountsFault};
+ghost use Rattle.desk_http.specs.Serving.{Serves, TellsPlan, Tells, bytes_of, status_of, reads_failed, writes_failed, outcome_said, no_memory, CountsFault};
 
 use crate::answering::answer;
 use crate::answers::Answer;
@@ -75,6 +75,7 @@ pub fn serve_link<R: Threads + Sync, S: Source, K: Sink, B: Keeper, P: Planner>(
 ) -> Served
     ensures served { Serves (S.left link.old.source) (B.tables keeper.old) (B.tables keeper.new)
         (K.held link.old.sink) (K.held link.new.sink) result }
+    ensures planned { TellsPlan (S.left link.old.source) (K.held link.old.sink) (K.held link.new.sink) result }
     ensures reads { S.faults link.new.source ≡ reads_failed (S.faults link.old.source) result }
     ensures writes { K.faults link.new.sink ≡ writes_failed (K.faults link.old.sink) result }
     ensures keeper { CountsFault (B.faults keeper.old) result (B.faults keeper.new) }
