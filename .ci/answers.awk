@@ -23,10 +23,11 @@ BEGIN {
         "|off " n " (plain|daily|weekly)|drive " name " " n "|serve " name " " n "|load " n "))$"
 }
 
-# is_report: whether the lines are a report, whose bound is its cost where that is proved, and never more
+# is_report: whether the lines are a report of a first draft, whose bound is its cost where that is proved, and never more
 function is_report(k, cost, bound) {
     for (k = 1; k <= 5; k++) if (line[k] !~ head[k]) return 0
-    for (k = 6; k <= lines; k++) if (line[k] !~ body) return 0
+    for (k = 6; k < lines; k++) if (line[k] !~ body) return 0
+    if (line[lines] != "draft 1") return 0
     cost = substr(line[2], 6) + 0
     bound = substr(line[3], 7) + 0
     return line[4] == "state proved" ? bound == cost : bound <= cost

@@ -1,4 +1,0 @@
-pub mod OptionSteps
-pub mod Tellings
-pub mod Budgets
-pub mod Runs
