@@ -1,0 +1,50 @@
+// The store in the current folder, and a keeper for what asks no store.
+use desk::{KEEPER_FAULT, WANT_OF_MEMORY, tell};
+use desk_io::Sink;
+use desk_keeper::MemoryKeeper;
+use keeper_sqlite::{OpenError, SqliteKeeper, open_store};
+use minute_line::{Many, Memory};
+use sqlite::{Connection, File, FileStore};
+use std::alloc::Global;
+
+/// The store's file.
+const STORE: &str = "desk.sqlite";
+
+/// The status of a store that failed.
+const STORE_FAULT: u8 = 7;
+
+/// The keeper over the store in the current folder, which is made where it is missing.
+pub(crate) fn open_file(rt: &HostRuntime) -> Result<SqliteKeeper<FileStore<File>>, OpenError> {
+    let connection = Connection::open(rt, STORE)?;
+    open_store(rt.alloc(), connection)
+}
+
+/// A keeper in memory that keeps nothing.
+pub(crate) fn empty_keeper(alloc: Global) -> MemoryKeeper {
+    MemoryKeeper {
+        histories: Many::new(alloc),
+        drafts: Many::new(alloc),
+        issues: Many::new(alloc),
+        calls: 0,
+        fails: Many::new(alloc),
+        faults: 0,
+    }
+}
+
+/// The line of a store of another version.
+fn version_line(alloc: Global, version: i64) -> Result<String, Memory> {
+    Ok(format!(in alloc; "refused store version {version}\n")?)
+}
+
+/// Tells why the store is not opened. Its status is 7, and for want of memory 8, with nothing told.
+pub(crate) fn tell_unopened<K: Sink>(alloc: Global, error: OpenError, sink: &mut K) -> u8 {
+    match error {
+        OpenError::Fault => tell(sink, KEEPER_FAULT, STORE_FAULT),
+        OpenError::Text => tell(sink, b"refused store text\n", STORE_FAULT),
+        OpenError::Version(version) => match version_line(alloc, version) {
+            Ok(line) => tell(sink, line.as_bytes(), STORE_FAULT),
+            Err(Memory) => WANT_OF_MEMORY,
+        },
+        OpenError::Memory => WANT_OF_MEMORY,
+    }
+}

@@ -1,9 +1,0 @@
-//! One run of the desk: words, a text and the office's tables in, an answer and a status out.
-#![tactic(auto)]
-
-mod making;
-mod running;
-#[cfg(test)]
-mod tests;
-
-pub use running::{KEEPER_FAULT, WANT_OF_MEMORY, run_desk, run_gated, tell};
