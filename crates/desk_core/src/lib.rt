@@ -21,6 +21,6 @@ pub use laws::{
     issues_stand, lines_are_verdicts, published_once, replies_are_its_steps, what_may_be_is_done,
 };
 pub use lines::refusal_line;
-pub use planning::{Solved, plan_text, read_case, solve_text};
+pub use planning::{Solved, read_case, solve_text};
 pub use refusals::{Refusal, Stop};
 pub use stepping::step;

@@ -7,11 +7,10 @@ ghost use Rattle.duty_plan.specs.Trees.{IsLimits, IsRight};
 ghost use Rattle.desk_core.specs.Refusing.{Meets};
 ghost use Rattle.desk_core.specs.Causes.{HasCause, RefusedFor};
 ghost use Rattle.desk_core.specs.Planning.{past_or_refusal, pasts_said, all_said, histories_said, nobody, with_driver, case_said};
-ghost use Rattle.desk_core.specs.Books.{gathered, book, Reports};
+ghost use Rattle.desk_core.specs.Books.{gathered, book};
 
 use crate::refusals::{Refusal, Stop, stop_past};
 use desk_csv::{Form, read_rows};
-use desk_report::body;
 use driver_history::read_past;
 use duty_plan::{Case, Gate, Limits, Outcome, Planner};
 use minute_line::{Bytes, History, Many, Memory, Name};
@@ -137,22 +136,4 @@ pub fn solve_text<R: Threads + Sync, P: Planner>(
     let case = read_case(alloc, text)?;
     let outcome = planner.solve(rt, gate, alloc, &case, limits)?;
     Ok(Solved { case, outcome })
-}
-
-/// The report of a week text: that of an outcome that the planner finds for its case within the limits.
-pub fn plan_text<R: Threads + Sync, P: Planner>(
-    rt: &R,
-    gate: &(dyn Gate + Sync),
-    alloc: Global,
-    text: &Bytes,
-    limits: &Limits,
-    planner: &mut P,
-) -> Result<Bytes, Stop>
-    requires text { length text.now ≤ 1048576 }
-    requires limits { IsLimits limits.now }
-    ensures { Reports limits.now result (case_said text.now) }
-{
-    let case = read_case(alloc, text)?;
-    let outcome = planner.solve(rt, gate, alloc, &case, limits)?;
-    Ok(body(alloc, &case, &outcome)?)
 }

@@ -103,8 +103,8 @@ fn run<R: Threads + Sync, B: Keeper, P: Planner>(
 
 /// Plays one command: one step of the desk machine over the keeper's tables, where they are told. Where the keeper fails or
 /// memory wants, the tables are as they were. Over every keeper a refusal has its cause in the command, as far as what is kept
-/// isn't asked for, and a plan that is done is one of the text's week. None of its own work grows faster than its text, the
-/// tables and the names.
+/// isn't asked for, and a plan that is done is one of the text's week. Its own work grows with its text and, for each
+/// driver of the week, with the tables; a report looks each order up among the steps.
 pub fn step<R: Threads + Sync, B: Keeper, P: Planner>(
     rt: &R,
     gate: &(dyn Gate + Sync),
