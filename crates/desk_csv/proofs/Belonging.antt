@@ -1,12 +1,13 @@
 -- What is so of each row that a record is read as: its number, and a word of the form.
 use Rattle.std.proofs.Common.{◌≡◌, ℕ, ℤ, ◌+◌, Bool, true, false, List, [], ◌∷◌, Result, Ok, Err, IfOk, if◌then◌else◌, refl, codes}
+use Rattle.std.specs.List.{list_all}
 use Rattle.std.specs.Str.{bytes_eq}
 use Rattle.std.proofs.lemmas.Bool.{and_from, eq-eqb}
 use Rattle.minute_line.specs.declared.dates.Monday.{Monday}
 use Rattle.week_book.specs.declared.rows.Row.{Row}
 use Rattle.week_book.specs.declared.rows.Row.TheVariants as row
 use Rattle.week_book.specs.Faults.{row_number}
-use Rattle.week_book.specs.Texts.{is_week, is_planned, is_checked, each_row, begins_with_week}
+use Rattle.week_book.specs.Texts.{is_week, is_planned, is_checked, begins_with_week}
 use Rattle.desk_csv.specs.declared.errors.Form.{Form}
 use Rattle.desk_csv.specs.declared.errors.Form.TheVariants.{Plan, Check}
 use Rattle.desk_csv.specs.declared.errors.CsvError.{CsvError}
@@ -131,7 +132,7 @@ row_belongs form day n fields =
 
 -- rows that were read have words of the form, and are numbered
 rows_belong : (form : Form) (day : ℤ) (n : ℕ) (rs : List Record) (rows : List Row) → rows_from form day n rs ≡ Ok rows
-    → (each_row (may_have form) rows ≡ true) × (are_numbered n rows ≡ true)
+    → (list_all (may_have form) rows ≡ true) × (are_numbered n rows ≡ true)
 unfolding rows_from
 rows_belong form day n [] rows h = rw (← ok_same [] rows h) (refl, refl)
 rows_belong form day n (r ∷ rs) rows h =
@@ -161,7 +162,7 @@ week_first form (r ∷ rs) monday rows h is =
     let one : is_week first.0 ≡ true = rw first.1 at (week_row form monday.day r week) in
     rw (← ok_same (first.0 ∷ rest.0) rows rest.2) one
 
-words_of : (form : Form) (rows : List Row) → begins_with_week rows ≡ true → each_row (may_have form) rows ≡ true → are_rows form rows ≡ true
+words_of : (form : Form) (rows : List Row) → begins_with_week rows ≡ true → list_all (may_have form) rows ≡ true → are_rows form rows ≡ true
 words_of Plan rows p q = and_from _ _ p q
 words_of Check rows p q = and_from _ _ p q
 

@@ -16,9 +16,6 @@ pub record AreSaid (replies : List Reply) : Type 0 where
   pub said : List (Result (List ℕ) Refusal)
   pub told : replies ≡ map answered said
 
-pub none_said : AreSaid []
-none_said = record { said = []; told = refl }
-
 answer_of : (reply : Reply) → ends_play reply ≡ false → (one : Result (List ℕ) Refusal) × (answered one ≡ reply)
 answer_of (Done text) e = (Ok text, refl)
 answer_of (Refused refusal) e = (Err refusal, refl)

@@ -1,5 +1,5 @@
 -- An export grows row by row.
-use Rattle.std.proofs.Common.{◌≡◌, ℕ, ◌+◌, List, [], ◌∷◌, ◌++◌, get_or, ap, ◌∙◌, append_assoc, codes, Result, Ok, Err, IfOk}
+use Rattle.std.proofs.Common.{◌≡◌, ℕ, List, [], ◌∷◌, ◌++◌, get_or, ap, ◌∙◌, append_assoc, codes, Result, Ok, Err, IfOk}
 use Rattle.std.specs.Fmt.{decimal}
 use Rattle.minute_line.specs.declared.many.Memory.{Memory}
 use Rattle.minute_line.specs.DateWriting.{AreDaysOf}

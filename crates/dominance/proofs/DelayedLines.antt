@@ -8,7 +8,7 @@ use Rattle.minute_line.specs.Marks.{is_duty}
 use Rattle.minute_line.specs.Minutes.{Minute, Minutes, stretch}
 use Rattle.hours_rules.specs.declared.clocks.Clock.{Clock}
 use Rattle.hours_rules.specs.declared.clocks.Stay.{Stay}
-use Rattle.hours_rules.specs.Rules.{Past, fault, fault_from, first_of_two}
+use Rattle.hours_rules.specs.Rules.{Past, fault, fault_from, fault_at}
 use Rattle.hours_rules.specs.Standing.{Stands}
 use Rattle.hours_rules.specs.Going.{with_stay}
 use Rattle.hours_rules.specs.Order.{Together, ClockDominates, IsEarlier, IsRested}
@@ -44,7 +44,7 @@ with_stay-added stay mark n week =
 
 -- ---- faults
 
-none_here : (late : Bool) (n : ℕ) → first_of_two None (cond late None None) n ≡ None
+none_here : (late : Bool) (n : ℕ) → fault_at n (cond late None None) ≡ None
 none_here true n = refl
 none_here false n = refl
 

@@ -8,7 +8,7 @@ use Rattle.minute_line.specs.Minutes.{Minutes, stretch}
 use Rattle.minute_line.specs.Marks.{is_rest}
 use Rattle.hours_rules.specs.Counts.{open_run}
 use Rattle.hours_rules.specs.Rules.{Past, whole}
-use Rattle.hours_rules.proofs.Determined.{as_good-itself}
+use Rattle.hours_rules.proofs.Better.{as_good-itself}
 use Rattle.hours_rules.proofs.Faults.{block-stands}
 use Rattle.duty_plan.specs.declared.duties.Step.{Step}
 use Rattle.duty_plan.specs.declared.plans.Case.{Case}

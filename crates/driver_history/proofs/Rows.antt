@@ -3,11 +3,10 @@ use Rattle.std.proofs.Common.{◌≡◌, ℕ, ◌+◌, ◌≤◌, ◌<◌, true,
 use Rattle.std.proofs.lemmas.Bool.Decides.{nat_tests}
 use Rattle.std.proofs.lemmas.Int.{ints}
 use Rattle.std.proofs.lemmas.List.{drop_all}
-use Rattle.std.specs.List.{filter_map, cons_option}
+use Rattle.std.specs.List.{filter_map, cons_option, list_all}
 use Rattle.std.specs.Str.{bytes_eq}
 use Rattle.week_book.specs.declared.rows.Row.{Row}
 use Rattle.week_book.specs.declared.rows.Row.TheVariants.{Rest, Worked, Past, Did}
-use Rattle.week_book.specs.Texts.{each_row}
 use Rattle.week_book.specs.Pasts.{past_activity, did_activity, rest_said, past_working_time, Activity, Rested, PastWorkingTime, past_activities, did_activities, rests_of, past_working_times_of, in_past_range, each_lasts, HasPastRows}
 use Rattle.driver_history.specs.Finding.{each_within, ArePast, IsRestInRange, IsPastWorkingTime}
 
@@ -57,7 +56,7 @@ few-said f (r ∷ rs) = here (f r) (few-said f rs)
     here (Some s) more = omega arith
 
 within-said : (f : Row → Option Activity) → ((r : Row) (s : Activity) → in_past_range r ≡ true → f r ≡ Some s → s.minutes ≤ 2000000) →
-    (rows : List Row) → each_row in_past_range rows ≡ true → each_within 2000000 (filter_map f rows) ≡ true
+    (rows : List Row) → list_all in_past_range rows ≡ true → each_within 2000000 (filter_map f rows) ≡ true
 within-said f said [] h = refl
 within-said f said (r ∷ rs) h = here (f r) refl (within-said f said rs (grind arith))
   where
@@ -65,7 +64,7 @@ within-said f said (r ∷ rs) h = here (f r) refl (within-said f said rs (grind 
     here None e more = more
     here (Some s) e more = let most = said r s (grind arith) e in grind (arith, nat_tests)
 
-lasts-said : (name : List ℕ) (rows : List Row) → each_row in_past_range rows ≡ true → each_lasts (filter_map (past_activity name) rows) ≡ true
+lasts-said : (name : List ℕ) (rows : List Row) → list_all in_past_range rows ≡ true → each_lasts (filter_map (past_activity name) rows) ≡ true
 lasts-said name [] h = refl
 lasts-said name (r ∷ rs) h = here (past_activity name r) refl (lasts-said name rs (grind arith))
   where
@@ -76,7 +75,7 @@ lasts-said name (r ∷ rs) h = here (past_activity name r) refl (lasts-said name
 
 -- what the first row says that says anything, if every row that says something says it so
 first-said : {B : Type 0} (f : Row → Option B) (P : B → Type 0) → ((r : Row) (x : B) → in_past_range r ≡ true → f r ≡ Some x → P x) →
-    (rows : List Row) → each_row in_past_range rows ≡ true → IfSome (slice_get (filter_map f rows) 0) P
+    (rows : List Row) → list_all in_past_range rows ≡ true → IfSome (slice_get (filter_map f rows) 0) P
 first-said f P said [] h = tt
 first-said {B = B} f P said (r ∷ rs) h = here (f r) refl (first-said f P said rs (grind arith))
   where
@@ -98,11 +97,11 @@ did_within name rows h =
     let few = h.few in let short = few-said (did_activity name) rows in
     (within-said (did_activity name) (did-said name) rows h.ranges, omega arith)
 
-pub rests_said : (name : List ℕ) (rows : List Row) → each_row in_past_range rows ≡ true → IfSome (slice_get (rests_of name rows) 0) IsRestInRange
+pub rests_said : (name : List ℕ) (rows : List Row) → list_all in_past_range rows ≡ true → IfSome (slice_get (rests_of name rows) 0) IsRestInRange
 rests_said name rows h = first-said (rest_said name) IsRestInRange (rest-said name) rows h
 
-pub past_works_said : (name : List ℕ) (rows : List Row) → each_row in_past_range rows ≡ true → IfSome (slice_get (past_working_times_of name rows) 0) IsPastWorkingTime
+pub past_works_said : (name : List ℕ) (rows : List Row) → list_all in_past_range rows ≡ true → IfSome (slice_get (past_working_times_of name rows) 0) IsPastWorkingTime
 past_works_said name rows h = first-said (past_working_time name) IsPastWorkingTime (past_work-said name) rows h
 
-pub is_rest : (name : List ℕ) (rows : List Row) (x : Rested) → each_row in_past_range rows ≡ true → slice_get (rests_of name rows) 0 ≡ Some x → IsRestInRange x
+pub is_rest : (name : List ℕ) (rows : List Row) (x : Rested) → list_all in_past_range rows ≡ true → slice_get (rests_of name rows) 0 ≡ Some x → IsRestInRange x
 is_rest name rows x h e = let said = rests_said name rows h in rw e at said

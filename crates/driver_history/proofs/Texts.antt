@@ -1,5 +1,6 @@
 -- A text with one more row.
 use Rattle.std.proofs.Common.{◌≡◌, ℕ, ◌+◌, ◌≤◌, true, leb, inl, inr, List, [], ◌∷◌, ◌++◌, length, refl, arith, append-nil, length-append, le-leb}
+use Rattle.std.specs.List.{list_all}
 use Rattle.std.proofs.lemmas.Bool.{cases_Bool}
 use Rattle.std.proofs.lemmas.Bool.Decides.{nat_tests}
 use Rattle.std.proofs.lemmas.List.Elements.{filter_map-append}
@@ -7,10 +8,9 @@ use Rattle.std.specs.Str.{bytes_eq}
 use Rattle.week_book.specs.declared.rows.Row.{Row}
 use Rattle.week_book.specs.declared.rows.Row.TheVariants.{Past, Did}
 use Rattle.week_book.specs.declared.rows.Word.{Word}
-use Rattle.week_book.specs.Texts.{each_row}
 use Rattle.week_book.specs.Pasts.{did_activity, rest_said, past_working_time, Activity, rests_of, past_working_times_of, did_activities, in_past_range, each_lasts, zero_first, HasPastRows}
 
-ranges-append : (xs ys : List Row) → each_row in_past_range xs ≡ true → each_row in_past_range ys ≡ true → each_row in_past_range (xs ++ ys) ≡ true
+ranges-append : (xs ys : List Row) → list_all in_past_range xs ≡ true → list_all in_past_range ys ≡ true → list_all in_past_range (xs ++ ys) ≡ true
 ranges-append [] ys h g = g
 ranges-append (x ∷ xs) ys h g = grind (arith, ranges-append xs ys)
 
@@ -25,7 +25,7 @@ zeros-append (x ∷ xs) ys h g = grind (arith, lasts-append xs ys)
 
 -- no rest row or worked row among them, and a minute in each did row
 pub record Adds (ys : List Row) : Type 0 where
-  pub ranges : each_row in_past_range ys ≡ true
+  pub ranges : list_all in_past_range ys ≡ true
   pub rests : (name : List ℕ) → rests_of name ys ≡ []
   pub past_works : (name : List ℕ) → past_working_times_of name ys ≡ []
   pub lasts : (name : List ℕ) → each_lasts (did_activities name ys) ≡ true

@@ -10,7 +10,7 @@ use Rattle.week_book.specs.declared.weeks.Week.{Week}
 use Rattle.week_book.specs.Weeks.{IsLeg, IsWeek, road}
 use Rattle.duty_plan.proofs.WeekLimits.{all-find}
 use Rattle.duty_label.specs.Tables.{HasZeros, IsBelow, IsBelowLegs, IsClosedOver, IsLesser, AreLowered, cell}
-use Rattle.duty_label.specs.Walks.{AreClosed, AreLowerBounds}
+use Rattle.duty_label.specs.Walks.{AreLowerBounds}
 use Rattle.duty_label.proofs.Reaching.{bounds_legs}
 
 both : (a b : Bool) → (a && b) ≡ true → (a ≡ true) × (b ≡ true)

@@ -1,16 +1,13 @@
 -- What the prune loses, and what it keeps.
-use Rattle.std.proofs.Common.{◌↔◌, ◌≡◌, ◌⊎◌, inl, inr, ℕ, zero, suc, ◌+◌, ◌<◌, ◌≤◌, Bool, true, false, not, ◌&&◌, leb, cond, List, [], ◌∷◌, ◌++◌, length, refl, ap, sym, subst, ◌∙◌, arith, Option, Some, None, ℤ, pos, ◌+ℤ◌, ◌-ℤ◌, ◌≤ℤ◌, ◌<ℤ◌}
+use Rattle.std.proofs.Common.{◌↔◌, ◌≡◌, inl, inr, ℕ, ◌+◌, ◌<◌, ◌≤◌, Bool, true, false, leb, cond, [], ◌∷◌, ◌++◌, length, refl, ap, sym, subst, ◌∙◌, arith, Option, Some, None, ℤ, ◌≤ℤ◌}
 use Rattle.std.proofs.lemmas.Int.{ints, by_lt_z}
-use Rattle.std.proofs.lemmas.Bool.{leb-true, le-leb, cases_lt}
-use Rattle.std.proofs.lemmas.Bool.Decides.{nat_tests}
+use Rattle.std.proofs.lemmas.Bool.{leb-true, le-leb}
 use Rattle.std.specs.Int.{bit_at}
 use Rattle.week_book.specs.declared.weeks.Week.{Week}
-use Rattle.week_book.specs.Weeks.{order_of, road, driver_of}
+use Rattle.week_book.specs.Weeks.{order_of, road}
 use Rattle.duty_plan.specs.declared.duties.Act.{Act}
 use Rattle.duty_plan.specs.declared.duties.Act.TheVariants.{Leg, Serve, Load}
-use Rattle.duty_plan.specs.declared.duties.Step.{Step}
 use Rattle.duty_plan.specs.declared.plans.Case.{Case}
-use Rattle.duty_plan.specs.declared.deciding.Pair.TheVariants.{Forced}
 use Rattle.duty_plan.specs.declared.deciding.Pairs.{Pairs}
 use Rattle.duty_plan.specs.declared.pricing.Prices.{Prices}
 use Rattle.duty_plan.specs.declared.labels.Label.{Label}
@@ -18,9 +15,8 @@ use Rattle.duty_plan.specs.Acts.{cents_of_act, cents_of_road}
 use Rattle.duty_plan.specs.PartialDuties.{PartialDuty, place_after, at_after, serves, KeepsOfficeThrough}
 use Rattle.duty_plan.specs.Duties.{IsLawfulPartialDuty, open_off_at, capacity_at, cents_after, cost_after}
 use Rattle.duty_plan.specs.Values.{is_barred, pair_at, price_at, reduced_cost}
-use Rattle.duty_plan.specs.Labels.{IsLabelOf, closes_of, served_after}
-use Rattle.duty_plan.specs.LabelLists.{completion_bound, still_open}
-use Rattle.duty_plan.specs.Sums.{total_below}
+use Rattle.duty_plan.specs.Labels.{IsLabelOf, closes_of}
+use Rattle.duty_plan.specs.LabelLists.{still_open}
 use Rattle.duty_plan.proofs.Bits.{served_bits}
 use Rattle.duty_plan.proofs.Hopes.{most-worth, serves-split}
 use Rattle.duty_plan.proofs.Sums.{total-mono}

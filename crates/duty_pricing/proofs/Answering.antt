@@ -27,9 +27,6 @@ use Rattle.duty_pricing.proofs.Entries.{entry-of, length-entries}
 use Rattle.duty_pricing.proofs.Exhausting.{exhausts_duties}
 use Rattle.duty_pricing.proofs.Storing.{have-labels}
 
-some-same : {X : Type 0} (a b : X) → Some a ≡ Some b → a ≡ b
-some-same a b h = cc
-
 some-none : {X : Type 0} (a : X) → Some a ≡ None → ⊥
 some-none a h = cc
 

@@ -1,19 +1,17 @@
 -- What a seat holds after a claim, and after a label more.
-use Rattle.std.proofs.Common.{◌≡◌, ◌⊎◌, ℕ, suc, ◌+◌, ◌/◌, ◌%◌, ◌<◌, ◌≤◌, List, [], ◌∷◌, ◌++◌, length, reverse, All, true, ltb, eqb, cond, refl, ap, sym, subst, ◌∙◌, arith}
+use Rattle.std.proofs.Common.{◌≡◌, ◌⊎◌, ℕ, suc, ◌+◌, ◌/◌, ◌%◌, ◌<◌, ◌≤◌, List, [], ◌∷◌, ◌++◌, All, ltb, cond, ap, sym, subst, ◌∙◌, arith}
 use Rattle.std.proofs.lemmas.Bool.Decides.{nat_tests}
 use Rattle.std.proofs.lemmas.List.{reverse-append}
 use Rattle.std.proofs.lemmas.List.Elements.{All-push}
 use Rattle.label_arena.specs.Views.{RoundView, SeatView}
-use Rattle.label_arena.specs.Counting.{times as drawn_times, without}
 use Rattle.duty_plan.specs.Duties.{times}
 use Rattle.duty_plan.specs.SharedRounds.{IsSpentSeat, chunks_drawn}
 use Rattle.duty_plan.specs.LabelLists.{IsLabelList}
 use Rattle.duty_plan.proofs.SharedRounds.{chunks-push}
 use Rattle.duty_pricing.specs.declared.asking.Asked.{Asked}
 use Rattle.duty_pricing.specs.declared.stores.LabelStore.{LabelStore}
-use Rattle.duty_pricing.specs.declared.slots.Slot.{Slot}
 use Rattle.duty_pricing.specs.Holding.{IsFullSeat, IsOpenSeat}
-use Rattle.duty_pricing.specs.Searching.{IsFull, IsOpen}
+use Rattle.duty_pricing.specs.Searching.{IsFull}
 use Rattle.duty_pricing.specs.Finding.{HoldsStore, IsSeated}
 use Rattle.duty_pricing.specs.Slots.{entries_of}
 use Rattle.duty_pricing.proofs.Elements.{length-push}

@@ -1,5 +1,5 @@
 -- What becomes of a step that is tried after a slot.
-use Rattle.std.proofs.Common.{◌≡◌, inl, ℕ, ◌<◌, ◌≤◌, Bool, true, false, List, [], ◌∷◌, ◌++◌, length, ap, sym, subst, ◌∙◌, arith, Some, slice_get, pos, ◌≤ℤ◌}
+use Rattle.std.proofs.Common.{◌≡◌, inl, ℕ, ◌<◌, ◌≤◌, false, List, [], ◌∷◌, ◌++◌, length, ap, sym, subst, ◌∙◌, arith, Some, slice_get, pos, ◌≤ℤ◌}
 use Rattle.std.proofs.lemmas.Int.{ints}
 use Rattle.duty_plan.specs.declared.duties.Step.{Step}
 use Rattle.duty_plan.specs.declared.labels.Label.{Label}
@@ -28,9 +28,6 @@ use Rattle.duty_pricing.proofs.Elements.{get-last, get-longer}
 use Rattle.duty_pricing.proofs.Entries.{entry-of, slot-of}
 use Rattle.duty_pricing.proofs.Searching.{entries-added}
 use Rattle.duty_pricing.proofs.Following.{place-in, ends-later, keeps-barred}
-
-clash : (b : Bool) → b ≡ true → b ≡ false → ⊥
-clash b t f = cc
 
 some-same : {X : Type 0} (a b : X) → Some a ≡ Some b → a ≡ b
 some-same a b h = cc

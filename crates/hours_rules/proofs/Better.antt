@@ -18,6 +18,31 @@ use Rattle.hours_rules.proofs.Owing.{LeavesLess, leaves-less}
 use Rattle.hours_rules.proofs.Rooms.{holds-within, fails-past}
 use Rattle.hours_rules.specs.Machine.{run_ended, ticked, rested, room, reduced_here, short_here, debt_room, limit_if, left_until}
 
+-- each clock is as good as itself
+pub as_good-itself : (c : Clock) → DominatesAtMinute c c
+as_good-itself c = record {
+  at = refl;
+  off = refl;
+  day_from = omega (arith, ints);
+  rest_from = omega (arith, ints);
+  period = omega arith;
+  half = refl;
+  drive_day = omega arith;
+  long_days = omega arith;
+  split = λ h. h;
+  reduced = omega arith;
+  prev_weekly = λ h. h;
+  work_run = omega arith;
+  work_day = omega arith;
+  pause_day = omega arith;
+  drive_week = omega arith;
+  work_week = omega arith;
+  prev_drive = refl;
+  work_before = refl;
+  owed = omega arith;
+  due = λ h. omega (arith, ints);
+}
+
 offset_later : (at off : ℕ) (x y : ℤ) → y ≤ℤ x → int_lt (pos 780) ((pos at -ℤ x) -ℤ pos off) ≡ true →
     int_lt (pos 780) ((pos at -ℤ y) -ℤ pos off) ≡ true
 offset_later at off x y g h = grind (arith, ints)

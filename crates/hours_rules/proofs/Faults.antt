@@ -1,5 +1,6 @@
 -- The first fault in a block of minutes of one mark.
 use Rattle.std.proofs.Common.{◌≡◌, ℕ, ◌+◌, ◌-◌, ◌≤◌, ◌<◌, Bool, true, false, not, leb, ltb, List, [], ◌∷◌, length, refl, ap, sym, subst, ◌∙◌, arith, suc, zero, Option, Some, None, find, option_map, le-leb, cond, ⊎_elim, inl, inr, ◌⊎◌}
+use Rattle.std.specs.Option.{option_or}
 use Rattle.std.proofs.lemmas.Bool.{lt-leb, cases_lt, le-ltb, lt-ltb, not-false}
 use Rattle.minute_line.specs.declared.marks.Mark.{Mark}
 use Rattle.minute_line.specs.declared.marks.Mark.TheVariants.{Off}
@@ -10,7 +11,7 @@ use Rattle.hours_rules.specs.declared.rules.Broken.{Broken}
 use Rattle.hours_rules.specs.declared.rules.Rule.{Rule}
 use Rattle.hours_rules.specs.declared.rules.Rule.TheVariants.{H1, H2, H3, H4, H5, H6, H7, H8, H9, H10, H11, H12}
 use Rattle.minute_line.specs.Marks.{is_duty}
-use Rattle.hours_rules.specs.Rules.{Past, holds, failing, first_of_two, all_rules, fault_from}
+use Rattle.hours_rules.specs.Rules.{Past, holds, failing, fault_at, all_rules, fault_from}
 use Rattle.hours_rules.specs.Standing.{Stands}
 use Rattle.hours_rules.specs.Machine.{run_ended, ticked, room, least_room, fault_within}
 use Rattle.hours_rules.proofs.Rooms.{holds-within, fails-past}
@@ -84,7 +85,7 @@ pub record Allows (past : Past) (mark : Mark) (kind : Kind) (week : Minutes) (f 
   pub beyond : (j : ℕ) (r : Rule) → f r ≡ j → j < 20000 →
       holds past (record { mark = mark; kind = kind }) (stretch j mark kind week) r ≡ false
 
-first_none : (late : Bool) (n : ℕ) → first_of_two None (cond late None None) n ≡ None
+first_none : (late : Bool) (n : ℕ) → fault_at n (cond late None None) ≡ None
 first_none true n = refl
 first_none false n = refl
 
@@ -194,7 +195,7 @@ none_judged o past (m ∷ week) h =
     let before : fault_from o past week ≡ None = none_judged o past week (omega arith) in
     let early : ltb (length week) o ≡ true = lt-ltb (length week) o (omega arith) in rw (before, early) refl
 
-same_first : (o : Option Broken) (late : Bool) (n : ℕ) → first_of_two o (cond late None None) n ≡ o
+same_first : (o : Option Broken) (late : Bool) (n : ℕ) → option_or o (fault_at n (cond late None None)) ≡ o
 same_first None late n = first_none late n
 same_first (Some b) late n = refl
 

@@ -21,7 +21,6 @@ pub mod Simulate
 pub mod Waiting
 pub mod Longer
 pub mod Sooner
-pub mod Determined
 pub mod Periods
 pub mod Beginnings
 pub mod Verdicts

@@ -1,5 +1,6 @@
 -- A completion that is lawful after one line is lawful after a line whose clock is as good.
 use Rattle.std.proofs.Common.{◌≡◌, ℕ, ◌≤◌, Bool, true, false, not, ltb, [], ◌∷◌, ◌++◌, length, refl, ap, arith, Option, Some, None, length-append}
+use Rattle.std.specs.Option.{option_or}
 use Rattle.std.proofs.lemmas.Bool.{le-ltb}
 use Rattle.minute_line.specs.declared.marks.Mark.{Mark}
 use Rattle.minute_line.specs.declared.marks.Mark.TheVariants.{Drive, Work, Ready, Off}
@@ -9,7 +10,7 @@ use Rattle.hours_rules.specs.declared.rules.Broken.{Broken}
 use Rattle.hours_rules.specs.declared.rules.Rule.{Rule}
 use Rattle.hours_rules.specs.declared.rules.Rule.TheVariants.{H5}
 use Rattle.minute_line.specs.Marks.{is_duty}
-use Rattle.hours_rules.specs.Rules.{Past, failing, fault_from, first_of_two, all_rules, holds}
+use Rattle.hours_rules.specs.Rules.{Past, failing, fault_from, fault_at, all_rules, holds}
 use Rattle.hours_rules.specs.Order.{Together}
 use Rattle.hours_rules.specs.Machine.{run_ended, ticked, rested}
 use Rattle.hours_rules.proofs.Steps.{stands-duty, stands-off}
@@ -22,7 +23,7 @@ off_mark Drive h = cc
 off_mark Work h = cc
 off_mark Ready h = cc
 
-split_fault : (o : Option Broken) (next : Option Rule) (n : ℕ) → first_of_two o next n ≡ None → (o ≡ None) × (next ≡ None)
+split_fault : (o : Option Broken) (next : Option Rule) (n : ℕ) → option_or o (fault_at n next) ≡ None → (o ≡ None) × (next ≡ None)
 split_fault None None n h = (refl, refl)
 split_fault None (Some r) n h = cc
 split_fault (Some b) next n h = cc

@@ -1,5 +1,6 @@
 -- The rules, at a minute of the week, and a line's first fault.
 use Rattle.std.specs.Prelude.{ℕ, ◌+◌, Bool, not, ◌&&◌, ◌||◌, nat_eq, nat_lt, nat_le, int_le, pos, if◌then◌else◌, List, [], ◌∷◌, ◌++◌, length, Option, Some, None, find, option_map}
+use Rattle.std.specs.Option.{option_or}
 use Rattle.minute_line.specs.declared.marks.Kind.{Kind}
 use Rattle.minute_line.specs.declared.marks.Kind.TheVariants.{Plain, Daily, Weekly}
 use Rattle.minute_line.specs.Minutes.{Minute, Minutes}
@@ -113,17 +114,16 @@ all_rules = H1 ∷ H2 ∷ H3 ∷ H4 ∷ H5 ∷ H6 ∷ H7 ∷ H8 ∷ H9 ∷ H10 �
 abbrev pub failing : Past → Minute → Minutes → Option Rule
 failing past m week = find (λ rule. not (holds past m week rule)) all_rules
 
--- the fault that was there before, or else the one of this minute
-abbrev pub first_of_two : Option Broken → Option Rule → ℕ → Option Broken
-first_of_two (Some fault) later minute = Some fault
-first_of_two None later minute = option_map (λ rule. record { rule = rule; minute = minute }) later
+-- the fault of a minute at which that rule fails
+abbrev pub fault_at : ℕ → Option Rule → Option Broken
+fault_at minute rule = option_map (λ r. record { rule = r; minute = minute }) rule
 
 -- the first minute of the week, from minute `from` on, at which a rule fails, with the least rule there
 abbrev pub fault_from : ℕ → Past → Minutes → Option Broken
 fault_from from past [] = None
 fault_from from past (m ∷ week) =
-    first_of_two (fault_from from past week)
-    (if nat_lt (length week) from then None else failing past m week) (length week)
+    option_or (fault_from from past week)
+    (fault_at (length week) (if nat_lt (length week) from then None else failing past m week))
 
 -- the first minute of the week at which a rule fails, with the least rule there
 abbrev pub fault : Past → Minutes → Option Broken

@@ -1,8 +1,9 @@
 // Searches over a pricer without chunks, whose answers are plain; and the pairs of a path. What is expected is worked out by
 // hand from the rules of a search.
 ghost use Rattle.std.specs.Prelude.{◌≡◌, ◌≤◌, ◌==◌, if◌then◌else◌, true, pos, [], length, IfOk, IfSome};
+ghost use Rattle.std.specs.List.{list_all};
 ghost use Rattle.week_book.specs.Weeks.{IsWeek};
-ghost use Rattle.week_book.specs.Texts.{is_planned, each_row, begins_with_week, are_week_rows};
+ghost use Rattle.week_book.specs.Texts.{is_planned, begins_with_week, are_week_rows};
 ghost use Rattle.duty_plan.specs.Duties.{IsCase};
 ghost use Rattle.branch_tree.specs.Paths.{HasEarlierParents};
 
@@ -93,7 +94,7 @@ fn begins_with_week(rows: &[Row]) -> bool
 }
 
 fn each_planned(rows: &[Row]) -> bool
-    ensures { result ≡ each_row is_planned rows.now }
+    ensures { result ≡ list_all is_planned rows.now }
 {
     for row in rows {
         if !is_planned(row) {

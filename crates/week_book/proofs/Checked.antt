@@ -1,10 +1,8 @@
 -- The week of a text without faults is a checked one.
-use Rattle.std.proofs.Common.{◌≡◌, ℕ, ◌≤◌, Bool, true, false, ◌||◌, ◌==◌, nat_le, Option, Some, None, Result, Ok, Err, IfOk, List, [], ◌∷◌, length, map, filter_map, All, refl, inl, inr, ◌⊎◌, arith}
+use Rattle.std.proofs.Common.{◌≡◌, ℕ, ◌≤◌, Bool, true, false, ◌||◌, ◌==◌, nat_le, Option, Some, None, Result, Ok, IfOk, List, [], ◌∷◌, length, map, filter_map, All, refl, subst, inl, inr, ◌⊎◌, arith}
 use Rattle.std.proofs.lemmas.Bool.{false≢true, leb-true, eqb-true, and_parts}
-use Rattle.std.proofs.lemmas.Result.{IfOk-at_ok}
 use Rattle.std.proofs.lemmas.List.Elements.{All-weaker, All-map}
-use Rattle.minute_line.specs.Answers.{Gives}
-use Rattle.std.specs.List.{IsDistinct, cons_option, list_any}
+use Rattle.std.specs.List.{IsDistinct, cons_option, list_any, list_all}
 use Rattle.std.specs.Option.{is_some}
 use Rattle.std.specs.Str.{bytes_eq}
 use Rattle.week_book.specs.declared.rows.Row.{Row}
@@ -14,10 +12,8 @@ use Rattle.week_book.specs.declared.weeks.Driver.{Driver}
 use Rattle.week_book.specs.declared.weeks.Week.{Week}
 use Rattle.week_book.specs.declared.errors.What.TheVariants.{Places, Legs, Drivers, Orders}
 use Rattle.week_book.specs.declared.errors.WeekError.{WeekError}
-use Rattle.week_book.specs.declared.errors.WeekError.TheVariants.{Memory}
 use Rattle.week_book.specs.Names.{is_name}
 use Rattle.week_book.specs.Ranges.{is_within, is_grid, keeps_ranges}
-use Rattle.week_book.specs.Texts.{each_row}
 use Rattle.week_book.specs.Numbers.{place_in, driver_in, leg_in, order_in, place_names, drivers_of, driver_names}
 use Rattle.week_book.specs.Checking.{is_of, fault_of, week_made}
 use Rattle.week_book.specs.Weeks.{IsLeg, IsDriver, IsOrder, AreNames, same_ends, IsWeek}
@@ -67,7 +63,7 @@ are_names name items formed distinct = record {
 }
 
 -- the week of rows without faults is a checked one
-made_is : (rows others : List Row) → IsFaultless rows → each_row keeps_ranges rows ≡ true → each_row keeps_ranges others ≡ true
+made_is : (rows others : List Row) → IsFaultless rows → list_all keeps_ranges rows ≡ true → list_all keeps_ranges others ≡ true
     → IfOk (week_made rows others) IsWeek
 made_is rows [] none fits first = tt
 made_is rows (row.Week n monday load night grid ∷ rs) none fits first =
@@ -77,7 +73,7 @@ made_is rows (row.Week n monday load night grid ∷ rs) none fits first =
     let names = driver_names rows in
     let all = sound places names rows fits none.names in
     let far = apart rows none.doubles in
-    let here = and_parts (keeps_ranges (row.Week n monday load night grid)) (each_row keeps_ranges rs) first in
+    let here = and_parts (keeps_ranges (row.Week n monday load night grid)) (list_all keeps_ranges rs) first in
     let in_load = and_parts (is_within 1 240 load) _ here.0 in
     let in_night = and_parts (nat_le night 1000000) _ in_load.1 in
     let in_grid = and_parts (is_grid grid) true in_night.1 in
@@ -111,10 +107,8 @@ made_is rows (row.Week n monday load night grid ∷ rs) none fits first =
 made_is rows (_ ∷ rs) none fits first = tt
 
 -- a week that was made of rows without faults
-pub made_checked : (r : Result Week WeekError) (rows : List Row) → fault_of rows ≡ None
-    → Gives Memory (λ (week : Week). week) r (week_made rows rows) → IfOk r IsWeek
-made_checked (Ok week) rows none gives =
+pub made_checked : (week : Week) (rows : List Row) → fault_of rows ≡ None → week_made rows rows ≡ Ok week → IsWeek week
+made_checked week rows none made =
     let clean = faultless rows none in
     let fits = kept [] rows clean.ranges in
-    IfOk-at_ok IsWeek gives (made_is rows rows clean fits fits)
-made_checked (Err e) rows none gives = tt
+    subst (λ (r : Result Week WeekError). IfOk r IsWeek) made (made_is rows rows clean fits fits)

@@ -15,7 +15,6 @@ use Rattle.week_book.specs.Names.{is_name}
 use Rattle.week_book.specs.Pasts.{is_off_word}
 use Rattle.week_book.specs.Keys.{double_fault}
 use Rattle.week_book.specs.Numbers.{place_in, place_names, driver_names, unknown_fault}
-use Rattle.week_book.specs.Texts.{each_row}
 use Rattle.week_book.specs.Driven.{driven, did_fault}
 use Rattle.week_book.specs.Checking.{is_of, limit_of, too_many, count_fault, counts_fault, depot_fault, fault_of}
 
@@ -122,7 +121,7 @@ kept_row begun (row.Did n driver mark minutes) fits =
 kept_row begun _ fits = fits
 
 -- rows without a range fault keep their ranges
-pub kept : (before rows : List Row) → first_fault range_of before rows ≡ None → each_row keeps_ranges rows ≡ true
+pub kept : (before rows : List Row) → first_fault range_of before rows ≡ None → list_all keeps_ranges rows ≡ true
 kept before [] none = refl
 kept before (r ∷ rs) none =
     let here = neither (range_of before r) _ none in

@@ -10,7 +10,6 @@ use Rattle.week_book.specs.declared.rows.Row.TheVariants as row
 use Rattle.week_book.specs.Names.{is_name}
 use Rattle.week_book.specs.Ranges.{is_did_span, is_within, range_fault, keeps_ranges}
 use Rattle.week_book.specs.Keys.{key_of, double_fault}
-use Rattle.week_book.specs.Texts.{each_row}
 use Rattle.week_book.specs.Pasts.{HasPastRows, in_past_range, rests_of, past_working_times_of}
 use Rattle.week_book.proofs.Apart.{IsApart, AreApart, apart}
 use Rattle.week_book.proofs.Faultless.{kept}
@@ -38,7 +37,7 @@ past_row (row.Did n driver mark minutes) fits =
     (and_parts (nat_le minutes 10080) _ (and_parts (is_did_span false mark minutes) true parts.1).0).0
 past_row _ fits = refl
 
-past_rows : (rows : List Row) → each_row keeps_ranges rows ≡ true → each_row in_past_range rows ≡ true
+past_rows : (rows : List Row) → list_all keeps_ranges rows ≡ true → list_all in_past_range rows ≡ true
 past_rows [] fits = refl
 past_rows (r ∷ rs) fits = let parts = and_parts (keeps_ranges r) _ fits in and_from _ _ (past_row r parts.0) (past_rows rs parts.1)
 

@@ -13,7 +13,7 @@ use Rattle.week_book.specs.Weeks.{same_ends}
 use Rattle.week_book.proofs.Maps.{number_same}
 use Rattle.week_book.proofs.Items.{Links}
 use Rattle.week_book.proofs.Faultless.{neither}
-use Rattle.week_book.proofs.Sound.{IsSound, known_number}
+use Rattle.week_book.proofs.Sound.{known_parts, IsSound, known_number}
 
 pub place_key : (r : Row) → IfSome (place_in r) (λ name. key_of r ≡ Some (1 ∷ name))
 place_key (row.Place n name) = refl
@@ -37,7 +37,8 @@ pub record Ends (places : List (List ℕ)) (r : Row) (x : Leg) : Type 0 where
 
 pub leg_ends : (places drivers : List (List ℕ)) (r : Row) → IsSound places drivers r → IfSome (leg_in places r) (Ends places r)
 leg_ends places drivers (row.Leg n from to minutes cents) good =
-    let names = neither (unknown_name places n 2 from) (unknown_name places n 3 to) good.known in
+    let known = known_parts places drivers (row.Leg n from to minutes cents) good.known in
+    let names = neither (unknown_name places n 2 from) (unknown_name places n 3 to) known.0 in
     record {
       from = from;
       to = to;

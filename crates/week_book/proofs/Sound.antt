@@ -1,7 +1,7 @@
 -- What the items of rows keep, where each row is in its ranges and its names are known.
 use Rattle.std.proofs.Common.{◌≡◌, ◌≢◌, ◌∙◌, ℕ, ◌≤◌, true, not, nat_le, nat_abs, ℤ, pos, negsuc, int_le, Option, Some, None, List, [], ◌∷◌, length, unwrap_or, refl, sym, ap}
-use Rattle.std.proofs.lemmas.Bool.{false≢true, leb-true, and_from, and_parts}
-use Rattle.std.specs.List.{AllByRecursion}
+use Rattle.std.proofs.lemmas.Bool.{false≢true, leb-true, and_parts}
+use Rattle.std.specs.List.{AllByRecursion, list_all}
 use Rattle.std.specs.Option.{IfSome, is_some}
 use Rattle.std.specs.Str.{bytes_eq}
 use Rattle.week_book.specs.declared.rows.Row.{Row}
@@ -12,8 +12,7 @@ use Rattle.week_book.specs.declared.errors.WeekError.TheVariants.{Unknown}
 use Rattle.week_book.specs.Names.{is_among, is_name, number_of}
 use Rattle.week_book.specs.Faults.{first_of}
 use Rattle.week_book.specs.Ranges.{is_within, is_week_minute, is_close_of, is_other_name, keeps_ranges}
-use Rattle.week_book.specs.Texts.{each_row}
-use Rattle.week_book.specs.Numbers.{has_known_places, numbered, place_in, driver_in, leg_in, order_in, unknown_name, unknown_of}
+use Rattle.week_book.specs.Numbers.{numbered, place_in, driver_in, leg_in, order_in, unknown_name, unknown_driver, unknown_end, unknown_place, unknown_of}
 use Rattle.week_book.specs.Weeks.{IsLeg, IsDriver, IsOrder}
 use Rattle.week_book.proofs.Maps.{number_among, number_in, number_same}
 use Rattle.week_book.proofs.Faultless.{neither, passed}
@@ -23,7 +22,7 @@ pub record IsSound (places drivers : List (List ℕ)) (r : Row) : Type 0 where
   pub fits : keeps_ranges r ≡ true
   pub known : unknown_of places drivers r ≡ None
 
-pub sound : (places drivers : List (List ℕ)) (rows : List Row) → each_row keeps_ranges rows ≡ true
+pub sound : (places drivers : List (List ℕ)) (rows : List Row) → list_all keeps_ranges rows ≡ true
     → first_of (unknown_of places drivers) rows ≡ None → AllByRecursion (IsSound places drivers) rows
 sound places drivers [] fits none = tt
 sound places drivers (r ∷ rs) fits none =
@@ -54,23 +53,13 @@ known_number names n field name none =
     by_number None e some = let h = rw e at some in absurd (false≢true h)
     by_number (Some k) e some = e ∙ ap (λ (o : Option ℕ). Some (unwrap_or o 0)) (sym e)
 
-known_name : (names : List (List ℕ)) (n field : ℕ) (name : List ℕ) → unknown_name names n field name ≡ None → is_among names name ≡ true
-known_name names n field name none = passed (is_among names name) (Unknown n field) none
-
-known_row : (places drivers : List (List ℕ)) (r : Row) → unknown_of places drivers r ≡ None → has_known_places places r ≡ true
-known_row places drivers (row.Leg n from to minutes cents) none =
-    let both = neither (unknown_name places n 2 from) (unknown_name places n 3 to) none in
-    and_from _ _ (known_name places n 2 from both.0) (known_name places n 3 to both.1)
-known_row places drivers (row.Order n name place opens closes service kg price) none = known_name places n 3 place none
-known_row places drivers _ none = refl
-
--- rows in which no name is unknown name known places
-pub known_places : (places drivers : List (List ℕ)) (rows : List Row) → first_of (unknown_of places drivers) rows ≡ None
-    → each_row (has_known_places places) rows ≡ true
-known_places places drivers [] none = refl
-known_places places drivers (r ∷ rs) none =
-    let parts = neither (unknown_of places drivers r) _ none in
-    and_from _ _ (known_row places drivers r parts.0) (known_places places drivers rs parts.1)
+-- the parts of a row in which no name is unknown
+pub known_parts : (places drivers : List (List ℕ)) (r : Row) → unknown_of places drivers r ≡ None
+    → (unknown_end places r ≡ None) × (unknown_place places r ≡ None)
+known_parts places drivers r none =
+    let rest = neither (unknown_driver drivers r) _ none in
+    let ends = neither (unknown_end places r) _ rest.1 in
+    (ends.0, (neither (unknown_place places r) None ends.1).0)
 
 apart_numbers : (names : List (List ℕ)) (p q : List ℕ) (a b : ℕ) → number_of names p ≡ Some a → number_of names q ≡ Some b
     → not (bytes_eq p q) ≡ true → a ≢ b
@@ -80,7 +69,8 @@ apart_numbers names p q a b is_a is_b other same =
 
 pub leg_is : (places drivers : List (List ℕ)) (r : Row) → IsSound places drivers r → IfSome (leg_in places r) (IsLeg (length places))
 leg_is places drivers (row.Leg n from to minutes cents) good =
-    let names = neither (unknown_name places n 2 from) (unknown_name places n 3 to) good.known in
+    let known = known_parts places drivers (row.Leg n from to minutes cents) good.known in
+    let names = neither (unknown_name places n 2 from) (unknown_name places n 3 to) known.0 in
     let known_from = known_number places n 2 from names.0 in
     let known_to = known_number places n 3 to names.1 in
     let first = and_parts (is_name from) _ good.fits in
@@ -115,7 +105,8 @@ IsNamedOrder places o = IsOrder places o × (is_name o.name ≡ true)
 pub order_is : (places drivers : List (List ℕ)) (r : Row) → IsSound places drivers r
     → IfSome (order_in places r) (IsNamedOrder (length places))
 order_is places drivers (row.Order n name place opens closes service kg price) good =
-    let known = known_number places n 3 place good.known in
+    let parts = known_parts places drivers (row.Order n name place opens closes service kg price) good.known in
+    let known = known_number places n 3 place parts.1 in
     let first = and_parts (is_name name) _ good.fits in
     let second = and_parts (is_name place) _ first.1 in
     let third = and_parts (is_week_minute opens) _ second.1 in

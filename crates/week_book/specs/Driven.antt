@@ -9,7 +9,7 @@ use Rattle.week_book.specs.Names.{is_among}
 use Rattle.week_book.specs.Faults.{first_tried}
 use Rattle.week_book.specs.Ranges.{range_fault}
 use Rattle.week_book.specs.Keys.{double_fault}
-use Rattle.week_book.specs.Numbers.{unknown_fault}
+use Rattle.week_book.specs.Numbers.{unknown_drivers}
 use Rattle.week_book.specs.Checking.{too_many}
 
 -- one more name, unless it is there
@@ -28,7 +28,7 @@ driven rows = fold meet [] rows
 -- the first fault of a check text
 abbrev pub did_fault : List Row → Option WeekError
 did_fault rows = first_tried (too_many Drivers (length (driven rows)) ∷ range_fault rows ∷ double_fault rows
-    ∷ unknown_fault [] (driven rows) rows ∷ [])
+    ∷ unknown_drivers (driven rows) rows ∷ [])
 
 -- the drivers of a check text, or its first fault
 abbrev pub did_of : List Row → Result (List (List ℕ)) WeekError

@@ -1,5 +1,5 @@
 -- What each row adds to a week, with numbers for names, and which names no row defines.
-use Rattle.std.specs.Prelude.{ℕ, nat_abs, Bool, true, ◌&&◌, if◌then◌else◌, Option, Some, None, List, map, filter_map}
+use Rattle.std.specs.Prelude.{ℕ, nat_abs, if◌then◌else◌, Option, Some, None, List, [], ◌∷◌, map, filter_map}
 use Rattle.std.specs.Option.{option_or, unwrap_or}
 use Rattle.week_book.specs.declared.rows.Row.{Row}
 use Rattle.week_book.specs.declared.rows.Row.TheVariants as row
@@ -9,7 +9,7 @@ use Rattle.week_book.specs.declared.weeks.Driver.{Driver}
 use Rattle.week_book.specs.declared.errors.WeekError.{WeekError}
 use Rattle.week_book.specs.declared.errors.WeekError.TheVariants.{Unknown}
 use Rattle.week_book.specs.Names.{is_among, number_of}
-use Rattle.week_book.specs.Faults.{first_of}
+use Rattle.week_book.specs.Faults.{first_of, first_tried}
 
 -- the place of a place row
 abbrev pub place_in : Row → Option (List ℕ)
@@ -20,12 +20,6 @@ place_in _ = None
 abbrev pub driver_in : Row → Option Driver
 driver_in (row.Driver n name capacity fee) = Some (record { name = name; capacity = capacity; fee = fee })
 driver_in _ = None
-
--- the places that a leg or an order names are among these
-abbrev pub has_known_places : List (List ℕ) → Row → Bool
-has_known_places places (row.Leg n from to minutes cents) = is_among places from && is_among places to
-has_known_places places (row.Order n name place opens closes service kg price) = is_among places place
-has_known_places places _ = true
 
 -- the number of a name that is one of the names
 abbrev pub numbered : List (List ℕ) → List ℕ → ℕ
@@ -67,14 +61,30 @@ driver_names rows = map (λ driver. driver.name) (drivers_of rows)
 abbrev pub unknown_name : List (List ℕ) → ℕ → ℕ → List ℕ → Option WeekError
 unknown_name names n field name = if is_among names name then None else Some (Unknown n field)
 
+-- the driver that a row of a history names, where it is none of the drivers
+abbrev pub unknown_driver : List (List ℕ) → Row → Option WeekError
+unknown_driver drivers (row.Rest n driver end minutes) = unknown_name drivers n 2 driver
+unknown_driver drivers (row.Worked n driver last weeks) = unknown_name drivers n 2 driver
+unknown_driver drivers (row.Past n driver mark minutes) = unknown_name drivers n 2 driver
+unknown_driver drivers _ = None
+
+-- the first end of a leg that is none of the places
+abbrev pub unknown_end : List (List ℕ) → Row → Option WeekError
+unknown_end places (row.Leg n from to minutes cents) = option_or (unknown_name places n 2 from) (unknown_name places n 3 to)
+unknown_end places _ = None
+
+-- the place of an order, where it is none of the places
+abbrev pub unknown_place : List (List ℕ) → Row → Option WeekError
+unknown_place places (row.Order n name place opens closes service kg price) = unknown_name places n 3 place
+unknown_place places _ = None
+
 -- the first name of a row that is none of the places or none of the drivers that it has to be of
 abbrev pub unknown_of : List (List ℕ) → List (List ℕ) → Row → Option WeekError
-unknown_of places drivers (row.Leg n from to minutes cents) = option_or (unknown_name places n 2 from) (unknown_name places n 3 to)
-unknown_of places drivers (row.Rest n driver end minutes) = unknown_name drivers n 2 driver
-unknown_of places drivers (row.Worked n driver last weeks) = unknown_name drivers n 2 driver
-unknown_of places drivers (row.Past n driver mark minutes) = unknown_name drivers n 2 driver
-unknown_of places drivers (row.Order n name place opens closes service kg price) = unknown_name places n 3 place
-unknown_of places drivers _ = None
+unknown_of places drivers r = first_tried (unknown_driver drivers r ∷ unknown_end places r ∷ unknown_place places r ∷ [])
+
+-- the first driver of all rows that is none of the drivers
+abbrev pub unknown_drivers : List (List ℕ) → List Row → Option WeekError
+unknown_drivers drivers rows = first_of (unknown_driver drivers) rows
 
 -- the first name of all rows that no row defines
 abbrev pub unknown_fault : List (List ℕ) → List (List ℕ) → List Row → Option WeekError

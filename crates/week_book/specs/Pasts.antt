@@ -1,6 +1,6 @@
 -- What of a text's rows the histories and driven lines of its drivers rest on.
 use Rattle.std.specs.Prelude.{◌≡◌, ℕ, ◌≤◌, Bool, true, false, ◌&&◌, if◌then◌else◌, nat_le, int_le, pos, ℤ, List, [], ◌∷◌, length, Option, Some, None}
-use Rattle.std.specs.List.{filter_map}
+use Rattle.std.specs.List.{filter_map, list_all}
 use Rattle.std.specs.Str.{bytes_eq}
 use Rattle.minute_line.specs.declared.lines.TheConstants.{WEEK_MINUTES}
 use Rattle.minute_line.specs.Stints.{all_up_to}
@@ -8,7 +8,6 @@ use Rattle.week_book.specs.declared.rows.Row.{Row}
 use Rattle.week_book.specs.declared.rows.Row.TheVariants.{Rest, Worked, Past, Did}
 use Rattle.week_book.specs.declared.rows.Word.{Word}
 use Rattle.week_book.specs.declared.rows.Word.TheVariants as word
-use Rattle.week_book.specs.Texts.{each_row}
 
 -- a mark word with its minutes, and the row that has them
 pub record Activity : Type 0 where
@@ -92,7 +91,7 @@ zero_first (s ∷ ss) = (if is_off_word s.word then true else nat_le 1 s.minutes
 -- rows whose history rows and did rows are in range, with at most one rest row and one worked row of a driver
 pub record HasPastRows (rows : List Row) : Type 0 where
   pub few : length rows ≤ 1048576
-  pub ranges : each_row in_past_range rows ≡ true
+  pub ranges : list_all in_past_range rows ≡ true
   pub rests : (name : List ℕ) → length (rests_of name rows) ≤ 1
   pub past_works : (name : List ℕ) → length (past_working_times_of name rows) ≤ 1
   pub zeros : (name : List ℕ) → zero_first (did_activities name rows) ≡ true

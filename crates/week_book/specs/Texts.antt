@@ -1,5 +1,6 @@
 -- Which rows a week text has, and which a check text.
 use Rattle.std.specs.Prelude.{Bool, true, false, ◌&&◌, List, [], ◌∷◌}
+use Rattle.std.specs.List.{list_all}
 use Rattle.week_book.specs.declared.rows.Row.{Row}
 use Rattle.week_book.specs.declared.rows.Row.TheVariants.{Week, Place, Leg, Driver, Did, Order}
 
@@ -21,11 +22,6 @@ is_checked (Driver row name capacity fee) = false
 is_checked (Order row name place opens closes service kg price) = false
 is_checked _ = true
 
--- each row passes a test
-abbrev pub each_row : (Row → Bool) → List Row → Bool
-each_row test [] = true
-each_row test (r ∷ rs) = test r && each_row test rs
-
 -- the first row is a week row
 abbrev pub begins_with_week : List Row → Bool
 begins_with_week [] = false
@@ -33,8 +29,8 @@ begins_with_week (r ∷ rs) = is_week r
 
 -- the rows of a week text
 abbrev pub are_week_rows : List Row → Bool
-are_week_rows rows = begins_with_week rows && each_row is_planned rows
+are_week_rows rows = begins_with_week rows && list_all is_planned rows
 
 -- the rows of a check text
 abbrev pub are_check_rows : List Row → Bool
-are_check_rows rows = begins_with_week rows && each_row is_checked rows
+are_check_rows rows = begins_with_week rows && list_all is_checked rows

@@ -1,21 +1,20 @@
 // The week of a week text: its faults in their order, then its tables.
-ghost use Rattle.std.specs.Prelude.{◌≡◌, true, ◌≤◌, ◌<◌, ◌^◌, length, count_by, IfOk, OnOk};
-ghost use Rattle.std.specs.List.{list_any};
+ghost use Rattle.std.specs.Prelude.{◌≡◌, true, ◌≤◌, ◌<◌, ◌^◌, length, count_by, filter_map, Ok, IfOk, OnOk};
+ghost use Rattle.std.specs.List.{list_any, list_all};
 ghost use Rattle.minute_line.specs.Answers.{Gives};
 ghost use Rattle.week_book.specs.declared.errors.What.TheVariants.{Places};
 ghost use Rattle.week_book.specs.declared.errors.WeekError.TheVariants.{Memory};
 ghost use Rattle.week_book.specs.Faults.{Passes};
 ghost use Rattle.week_book.specs.Ranges.{keeps_ranges};
-ghost use Rattle.week_book.specs.Texts.{each_row, begins_with_week, are_week_rows};
-ghost use Rattle.week_book.specs.Numbers.{has_known_places, place_names};
+ghost use Rattle.week_book.specs.Texts.{begins_with_week, are_week_rows};
+ghost use Rattle.week_book.specs.Numbers.{leg_in, order_in, place_names, drivers_of};
 ghost use Rattle.week_book.specs.Checking.{is_of, limit_of, too_many, count_fault, counts_fault, fault_of, week_made, week_of};
 ghost use Rattle.week_book.specs.Pasts.{HasPastRows};
 ghost use Rattle.week_book.specs.Weeks.{IsWeek};
 
 use crate::errors::{WeekError, What};
 use crate::keys::check_doubles;
-use crate::name_indexes::NameIndex;
-use crate::numbering::{check_names, driver_index, drivers, legs, orders, place_index};
+use crate::numbering::{Tables, driver_index, make_tables, place_index};
 use crate::ranges::check_ranges;
 use crate::rows::Row;
 use crate::weeks::Week;
@@ -90,11 +89,14 @@ fn has_depot(rows: &[Row]) -> bool
     rows.iter().any(|row| row.is_of(What::Places))
 }
 
-/// The places of rows without a fault, by which a week's tables are made.
-fn check_rows<'a>(alloc: Global, rows: &'a [Row]) -> Result<NameIndex<'a>, WeekError>
+// The tables of rows without a fault.
+fn check_rows(alloc: Global, rows: &[Row]) -> Result<Tables, WeekError>
     requires { length rows.now ≤ 1048576 }
     ensures fault { Passes result (fault_of rows.now) }
-    ensures places { IfOk result (λ places. places ≡ place_names rows.now) }
+    ensures places { IfOk result (λ tables. tables.places ≡ place_names rows.now) }
+    ensures legs { IfOk result (λ tables. tables.legs ≡ filter_map (leg_in (place_names rows.now)) rows.now) }
+    ensures drivers { IfOk result (λ tables. tables.drivers ≡ drivers_of rows.now) }
+    ensures orders { IfOk result (λ tables. tables.orders ≡ filter_map (order_in (place_names rows.now)) rows.now) }
 {
     check_counts(rows)?;
     if !has_depot(rows) {
@@ -104,17 +106,18 @@ fn check_rows<'a>(alloc: Global, rows: &'a [Row]) -> Result<NameIndex<'a>, WeekE
     check_doubles(alloc, rows)?;
     let places = place_index(alloc, rows)?;
     let drivers = driver_index(alloc, rows)?;
-    check_names(&places, &drivers, rows)?;
-    Ok(places)
+    make_tables(alloc, &places, &drivers, rows)
 }
 
-fn make_week(alloc: Global, rows: &[Row], places: &NameIndex) -> Result<Week, WeekError>
-    requires places { places.now ≡ place_names rows.now }
-    requires few { length places.now ≤ 64 }
-    requires ranges { each_row keeps_ranges rows.now ≡ true }
-    requires known { each_row (has_known_places places.now) rows.now ≡ true }
+// The week of rows that begin with a week row, with their tables.
+fn make_week(rows: &[Row], tables: Tables) -> Week
     requires begins { begins_with_week rows.now ≡ true }
-    ensures { Gives Memory (λ week. week) result (week_made rows.now rows.now) }
+    requires ranges { list_all keeps_ranges rows.now ≡ true }
+    requires places { tables.places ≡ place_names rows.now }
+    requires legs { tables.legs ≡ filter_map (leg_in (place_names rows.now)) rows.now }
+    requires drivers { tables.drivers ≡ drivers_of rows.now }
+    requires orders { tables.orders ≡ filter_map (order_in (place_names rows.now)) rows.now }
+    ensures { week_made rows.now rows.now ≡ Ok result }
 {
     let Some(
         Row::Week {
@@ -128,16 +131,16 @@ fn make_week(alloc: Global, rows: &[Row], places: &NameIndex) -> Result<Week, We
     else {
         unreachable!()
     };
-    Ok(Week {
+    Week {
         monday: *monday,
         load: *load as u32,
         night: *night,
         grid: *grid as u32,
-        places: places.names(alloc)?,
-        legs: legs(alloc, places, rows)?,
-        drivers: drivers(alloc, rows)?,
-        orders: orders(alloc, places, rows)?,
-    })
+        places: tables.places,
+        legs: tables.legs,
+        drivers: tables.drivers,
+        orders: tables.orders,
+    }
 }
 
 /// The week of the rows of a week text, in the order of the rows, with places, drivers and orders numbered by their
@@ -150,6 +153,6 @@ pub fn check_week(alloc: Global, rows: &Many<Row>) -> Result<Week, WeekError>
     ensures rows { OnOk result (HasPastRows rows.now) }
 {
     let rows = rows.as_slice();
-    let places = check_rows(alloc, rows)?;
-    make_week(alloc, rows, &places)
+    let tables = check_rows(alloc, rows)?;
+    Ok(make_week(rows, tables))
 }

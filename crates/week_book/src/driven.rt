@@ -11,7 +11,7 @@ use crate::checking::check_number;
 use crate::errors::{WeekError, What};
 use crate::keys::check_doubles;
 use crate::name_indexes::NameIndex;
-use crate::numbering::check_names;
+use crate::numbering::check_drivers;
 use crate::ranges::check_ranges;
 use crate::rows::Row;
 use minute_line::{Many, Name};
@@ -51,8 +51,7 @@ fn check_rows(alloc: Global, rows: &[Row], drivers: &NameIndex) -> Result<(), We
     check_number(What::Drivers, drivers.len())?;
     check_ranges(alloc, rows)?;
     check_doubles(alloc, rows)?;
-    let places = NameIndex::new(alloc);
-    check_names(&places, drivers, rows)
+    check_drivers(drivers, rows)
 }
 
 /// The drivers of the rows of a check text, in the order in which their `did` rows first appear. The first row is the

@@ -1,10 +1,9 @@
-// The names that no row defines, and the tables of a week, with numbers for names.
-ghost use Rattle.std.specs.Prelude.{◌≡◌, true, ◌≤◌, length, filter_map, IfOk};
+// The tables of a week, with numbers for names, or the first name that no row defines.
+ghost use Rattle.std.specs.Prelude.{◌≡◌, true, ◌≤◌, ◌++◌, length, filter_map, option_to_list, IfOk, OnOk};
+ghost use Rattle.std.specs.List.{list_all};
 ghost use Rattle.week_book.specs.Faults.{Passes};
 ghost use Rattle.week_book.specs.Ranges.{keeps_ranges};
-ghost use Rattle.week_book.specs.Names.{is_among};
-ghost use Rattle.week_book.specs.Texts.{each_row};
-ghost use Rattle.week_book.specs.Numbers.{driver_in, has_known_places, numbered, leg_in, order_in, place_names, drivers_of, driver_names, unknown_name, unknown_of, unknown_fault};
+ghost use Rattle.week_book.specs.Numbers.{numbered, leg_in, order_in, place_names, drivers_of, driver_in, driver_names, unknown_name, unknown_driver, unknown_end, unknown_place, unknown_drivers, unknown_fault};
 
 use crate::errors::WeekError;
 use crate::name_indexes::NameIndex;
@@ -39,77 +38,61 @@ pub fn driver_index<'a>(alloc: Global, rows: &'a [Row]) -> Result<NameIndex<'a>,
     Ok(name_index)
 }
 
-fn unknown_name(names: &NameIndex, row: u32, field: u32, name: &[u8]) -> Option<WeekError>
-    ensures { result ≡ unknown_name names.now row field name.now }
+// Passes a name that is one of the names.
+fn check_name(names: &NameIndex, row: u32, field: u32, name: &[u8]) -> Result<(), WeekError>
+    ensures { Passes result (unknown_name names.now row field name.now) }
 {
     if names.has(name) {
-        None
+        Ok(())
     } else {
-        Some(WeekError::Unknown(row, field))
+        Err(WeekError::Unknown(row, field))
     }
-}
-
-fn unknown_in(places: &NameIndex, drivers: &NameIndex, row: &Row) -> Option<WeekError>
-    ensures { result ≡ unknown_of places.now drivers.now row.now }
-{
-    match row {
-        Row::Leg { row, from, to, .. } => {
-            let from = unknown_name(places, *row, 2, from.as_slice());
-            from.or(unknown_name(places, *row, 3, to.as_slice()))
-        }
-        Row::Rest { row, driver, .. } => unknown_name(drivers, *row, 2, driver.as_slice()),
-        Row::Worked { row, driver, .. } => unknown_name(drivers, *row, 2, driver.as_slice()),
-        Row::Past { row, driver, .. } => unknown_name(drivers, *row, 2, driver.as_slice()),
-        Row::Order { row, place, .. } => unknown_name(places, *row, 3, place.as_slice()),
-        Row::Week { .. } | Row::Place { .. } | Row::Driver { .. } | Row::Did { .. } => None,
-    }
-}
-
-/// Passes rows whose names are those of places and drivers.
-pub fn check_names(places: &NameIndex, drivers: &NameIndex, rows: &[Row]) -> Result<(), WeekError>
-    ensures { Passes result (unknown_fault places.now drivers.now rows.now) }
-{
-    for row in rows {
-        match unknown_in(places, drivers, row) {
-            Some(fault) => return Err(fault),
-            None => {}
-        }
-    }
-    Ok(())
 }
 
 // The number of a name that is one of the names.
-fn numbered(names: &NameIndex, name: &[u8]) -> u32
-    requires few { length names.now ≤ 64 }
-    requires known { is_among names.now name.now ≡ true }
-    ensures { result ≡ numbered names.now name.now }
+fn numbered(names: &NameIndex, row: u32, field: u32, name: &[u8]) -> Result<u32, WeekError>
+    requires { length names.now ≤ 64 }
+    ensures known { Passes result (unknown_name names.now row field name.now) }
+    ensures number { IfOk result (λ number. number ≡ numbered names.now name.now) }
 {
-    let Some(number) = names.number(name) else {
-        unreachable!()
-    };
-    number as u32
+    match names.number(name) {
+        None => Err(WeekError::Unknown(row, field)),
+        Some(number) => Ok(number as u32),
+    }
 }
 
-fn leg_in(places: &NameIndex, row: &Row) -> Option<Leg>
+// Passes a row whose driver, where it has a history's, is one of the drivers.
+fn check_driver(drivers: &NameIndex, row: &Row) -> Result<(), WeekError>
+    ensures { Passes result (unknown_driver drivers.now row.now) }
+{
+    match row {
+        Row::Rest { row, driver, .. } => check_name(drivers, *row, 2, driver.as_slice()),
+        Row::Worked { row, driver, .. } => check_name(drivers, *row, 2, driver.as_slice()),
+        Row::Past { row, driver, .. } => check_name(drivers, *row, 2, driver.as_slice()),
+        _ => Ok(()),
+    }
+}
+
+fn leg_in(places: &NameIndex, row: &Row) -> Result<Option<Leg>, WeekError>
     requires few { length places.now ≤ 64 }
     requires ranges { keeps_ranges row.now ≡ true }
-    requires known { has_known_places places.now row.now ≡ true }
-    ensures { result ≡ leg_in places.now row.now }
+    ensures known { Passes result (unknown_end places.now row.now) }
+    ensures leg { IfOk result (λ leg. leg ≡ leg_in places.now row.now) }
 {
     match row {
         Row::Leg {
+            row,
             from,
             to,
             minutes,
             cents,
-            ..
-        } => Some(Leg {
-            from: numbered(places, from.as_slice()),
-            to: numbered(places, to.as_slice()),
+        } => Ok(Some(Leg {
+            from: numbered(places, *row, 2, from.as_slice())?,
+            to: numbered(places, *row, 3, to.as_slice())?,
             minutes: *minutes as u32,
             cents: *cents,
-        }),
-        _ => None,
+        })),
+        _ => Ok(None),
     }
 }
 
@@ -132,14 +115,15 @@ fn driver_in(alloc: Global, row: &Row) -> Result<Option<Driver>, Memory>
     }
 }
 
-fn order_in(alloc: Global, places: &NameIndex, row: &Row) -> Result<Option<Order>, Memory>
+fn order_in(alloc: Global, places: &NameIndex, row: &Row) -> Result<Option<Order>, WeekError>
     requires few { length places.now ≤ 64 }
     requires ranges { keeps_ranges row.now ≡ true }
-    requires known { has_known_places places.now row.now ≡ true }
-    ensures { IfOk result (λ order. order ≡ order_in places.now row.now) }
+    ensures known { Passes result (unknown_place places.now row.now) }
+    ensures order { IfOk result (λ order. order ≡ order_in places.now row.now) }
 {
     match row {
         Row::Order {
+            row,
             name,
             place,
             opens,
@@ -147,10 +131,9 @@ fn order_in(alloc: Global, places: &NameIndex, row: &Row) -> Result<Option<Order
             service,
             kg,
             price,
-            ..
         } => Ok(Some(Order {
+            place: numbered(places, *row, 3, place.as_slice())?,
             name: Name::from_slice(alloc, name.as_slice())?,
-            place: numbered(places, place.as_slice()),
             opens: *opens as u32,
             closes: *closes as u32,
             service: *service as u32,
@@ -161,51 +144,60 @@ fn order_in(alloc: Global, places: &NameIndex, row: &Row) -> Result<Option<Order
     }
 }
 
-/// The legs of the rows, in order.
-pub fn legs(alloc: Global, places: &NameIndex, rows: &[Row]) -> Result<Many<Leg>, Memory>
-    requires few { length places.now ≤ 64 }
-    requires ranges { each_row keeps_ranges rows.now ≡ true }
-    requires known { each_row (has_known_places places.now) rows.now ≡ true }
-    ensures { IfOk result (λ legs. legs ≡ filter_map (leg_in places.now) rows.now) }
+/// Passes rows whose drivers, where they have a history's, are those.
+pub fn check_drivers(drivers: &NameIndex, rows: &[Row]) -> Result<(), WeekError>
+    ensures { Passes result (unknown_drivers drivers.now rows.now) }
 {
-    let mut legs = Many::new(alloc);
     for row in rows {
-        match leg_in(places, row) {
-            None => {}
-            Some(leg) => legs.push(leg)?,
-        }
+        check_driver(drivers, row)?;
     }
-    Ok(legs)
+    Ok(())
 }
 
-/// The drivers of the rows, in order.
-pub fn drivers(alloc: Global, rows: &[Row]) -> Result<Many<Driver>, Memory>
-    requires { each_row keeps_ranges rows.now ≡ true }
-    ensures { IfOk result (λ drivers. drivers ≡ drivers_of rows.now) }
+fn push_some<T: Drop>(items: &mut Many<T>, item: Option<T>) -> Result<(), Memory>
+    ensures { OnOk result (items.new ≡ items.old ++ option_to_list item) }
 {
-    let mut drivers = Many::new(alloc);
-    for row in rows {
-        match driver_in(alloc, row)? {
-            None => {}
-            Some(driver) => drivers.push(driver)?,
-        }
+    match item {
+        None => Ok(()),
+        Some(item) => items.push(item),
     }
-    Ok(drivers)
 }
 
-/// The orders of the rows, in order.
-pub fn orders(alloc: Global, places: &NameIndex, rows: &[Row]) -> Result<Many<Order>, Memory>
+/// The places, legs, drivers and orders of a week, in the order of their rows.
+#[derive(Drop)]
+pub struct Tables {
+    pub places: Many<Name>,
+    pub legs: Many<Leg>,
+    pub drivers: Many<Driver>,
+    pub orders: Many<Order>,
+}
+
+/// The tables of rows whose names are those of places and drivers. Each name is looked up once.
+pub fn make_tables(
+    alloc: Global,
+    places: &NameIndex,
+    drivers: &NameIndex,
+    rows: &[Row],
+) -> Result<Tables, WeekError>
     requires few { length places.now ≤ 64 }
-    requires ranges { each_row keeps_ranges rows.now ≡ true }
-    requires known { each_row (has_known_places places.now) rows.now ≡ true }
-    ensures { IfOk result (λ orders. orders ≡ filter_map (order_in places.now) rows.now) }
+    requires ranges { list_all keeps_ranges rows.now ≡ true }
+    ensures known { Passes result (unknown_fault places.now drivers.now rows.now) }
+    ensures places { IfOk result (λ tables. tables.places ≡ places.now) }
+    ensures legs { IfOk result (λ tables. tables.legs ≡ filter_map (leg_in places.now) rows.now) }
+    ensures drivers { IfOk result (λ tables. tables.drivers ≡ drivers_of rows.now) }
+    ensures orders { IfOk result (λ tables. tables.orders ≡ filter_map (order_in places.now) rows.now) }
 {
-    let mut orders = Many::new(alloc);
+    let mut tables = Tables {
+        places: places.names(alloc)?,
+        legs: Many::new(alloc),
+        drivers: Many::new(alloc),
+        orders: Many::new(alloc),
+    };
     for row in rows {
-        match order_in(alloc, places, row)? {
-            None => {}
-            Some(order) => orders.push(order)?,
-        }
+        check_driver(drivers, row)?;
+        push_some(&mut tables.legs, leg_in(places, row)?)?;
+        push_some(&mut tables.drivers, driver_in(alloc, row)?)?;
+        push_some(&mut tables.orders, order_in(alloc, places, row)?)?;
     }
-    Ok(orders)
+    Ok(tables)
 }

@@ -1,5 +1,6 @@
 ghost use Rattle.std.specs.Prelude.{◌≡◌};
-ghost use Rattle.week_book.specs.Texts.{is_planned, is_checked, each_row, begins_with_week, are_week_rows, are_check_rows};
+ghost use Rattle.std.specs.List.{list_all};
+ghost use Rattle.week_book.specs.Texts.{is_planned, is_checked, begins_with_week, are_week_rows, are_check_rows};
 
 use crate::{Row, WeekError, What, Word, check_did, check_week, leg};
 use minute_line::{Many, Memory, Monday, Name, read_monday};
@@ -121,7 +122,7 @@ fn begins_with_week(rows: &[Row]) -> bool
 }
 
 fn each_planned(rows: &[Row]) -> bool
-    ensures { result ≡ each_row is_planned rows.now }
+    ensures { result ≡ list_all is_planned rows.now }
 {
     for row in rows {
         if !is_planned(row) {
@@ -132,7 +133,7 @@ fn each_planned(rows: &[Row]) -> bool
 }
 
 fn each_checked(rows: &[Row]) -> bool
-    ensures { result ≡ each_row is_checked rows.now }
+    ensures { result ≡ list_all is_checked rows.now }
 {
     for row in rows {
         if !is_checked(row) {

@@ -1,6 +1,5 @@
-use Rattle.std.proofs.Common.{◌≡◌, ℕ, zero, suc, ◌<◌, List, [], ◌∷◌, length, refl, ap, arith, rules}
+use Rattle.std.proofs.Common.{◌≡◌, zero, suc, [], ◌∷◌, refl, ap, arith, rules}
 use Rattle.duty_plan.specs.declared.nodes.Node.{Node}
-use Rattle.duty_plan.specs.Nodes.{IsNode}
 use Rattle.branch_tree.specs.Paths.{HasEarlierParents}
 use Rattle.search_tests.proofs.tests.tree.Goals as goal
 

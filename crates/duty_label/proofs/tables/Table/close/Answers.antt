@@ -1,4 +1,4 @@
-use Rattle.std.proofs.Common.{ℕ, ◌<◌, arith}
+use Rattle.std.proofs.Common.{arith}
 use Rattle.duty_label.proofs.Closing.{closes-more}
 use Rattle.duty_label.proofs.tables.Table.close.Goals as goal
 

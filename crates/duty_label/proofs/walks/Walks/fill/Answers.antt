@@ -1,5 +1,4 @@
 -- Both tables are closed, and no leg undercuts them.
-use Rattle.std.proofs.Common.{◌≤◌, ℕ, ◌<◌, arith}
 use Rattle.duty_plan.specs.Acts.{cents_of_road, minutes_of_road}
 use Rattle.duty_label.proofs.Closing.{are-bounds, legs-below}
 use Rattle.duty_label.proofs.walks.Walks.fill.Goals as goal

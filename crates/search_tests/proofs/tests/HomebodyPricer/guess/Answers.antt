@@ -1,4 +1,4 @@
-use Rattle.std.proofs.Common.{◌≡◌, ℕ, List, Option, None, Some, IfSome, replicate, length, ap, sym, subst, ◌∙◌, rules, slice_get}
+use Rattle.std.proofs.Common.{◌≡◌, ℕ, List, Option, None, IfSome, replicate, length, sym, subst, ◌∙◌, rules}
 use Rattle.duty_plan.specs.declared.duties.Duty.{Duty}
 use Rattle.duty_plan.specs.declared.plans.Case.{Case}
 use Rattle.duty_plan.specs.declared.deciding.Pairs.{Pairs}
