@@ -1,6 +1,5 @@
 mod Named
 mod Keeping
 mod Reading
-mod Queries
 mod Failing
 mod Stored

@@ -21,7 +21,8 @@ use Rattle.sqlite.specs.Listing as listing
 use Rattle.sqlite.specs.State.{State, HasCleanDisk, Survives, IsUnchanged, IsRolledBack, Shown, FailsToShow, FailsToQuery, IsTooLate, IsNotRun}
 use Rattle.sqlite.specs.Held.{Held, state}
 use Rattle.sqlite.proofs.InsideLemmas.{unchanged_keeps}
-use Rattle.keeper_sqlite.specs.Commits.{CommitsNothing, is_select, is_reading, only_reads, Answers}
+use Rattle.store_texts.specs.Queries.{is_select, is_reading, only_reads}
+use Rattle.keeper_sqlite.specs.Commits.{CommitsNothing, Answers}
 
 chosen : (statement : Statement) → is_select statement ≡ true → (query : Query) × (statement ≡ Select query)
 chosen (Select query) e = (query, refl)
@@ -63,7 +64,7 @@ read_plainly (Err e) c schema reading h = cc
 read_plainly (Ok p) c schema reading h = planned_plainly p (planned schema p) c schema reading refl h
 
 compiled_plainly : (sql : List ℕ) (c : Compiled) (schema : Schema) → only_reads sql ≡ true → compiled schema sql ≡ Ok c → (c.returning ≡ None) × (c.formats ≡ [])
-unfolding compiled
+unfolding compiled only_reads
 compiled_plainly sql c schema reading h = read_plainly (first sql) c schema reading h
 
 if_selected_by : (b : Bool) (x c : Compiled) → ◌≡◌ {A = Checked Compiled} (cond b (Ok x) (Err NoSuchTable)) (Ok c) → ◌≡◌ {A = Checked Compiled} (Ok x) (Ok c)

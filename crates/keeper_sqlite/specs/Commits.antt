@@ -1,14 +1,9 @@
 -- What a call within a transaction leaves of what is committed, and what a query answers.
-use Rattle.std.specs.Prelude.{◌≡◌, ⊤, ℕ, ◌≤◌, Bool, true, false, List, ◌&&◌, length, ◌==◌, Result, Ok, Err}
+use Rattle.std.specs.Prelude.{◌≡◌, ⊤, ℕ, ◌≤◌, List, Result, Ok, Err}
 use Rattle.sqlite_value.specs.Order.{Row}
 use Rattle.sqlite_trees.specs.Tree.{Trees}
 use Rattle.sqlite_trees.specs.View.{doubt}
-use Rattle.sqlite_ast.specs.declared.Statement.{Statement}
-use Rattle.sqlite_ast.specs.declared.Statement.TheVariants.{Select}
-use Rattle.sqlite_resolve.specs.Lowering.{Checked}
-use Rattle.sqlite_resolve.specs.Compile.{first}
 use Rattle.sqlite_resolve.specs.declared.compiled.Compiled.{Compiled}
-use Rattle.sqlite_syntax.specs.declared.statement.Parsed.{Parsed}
 use Rattle.sqlite.specs.Effect.{Database, Reads}
 use Rattle.sqlite.specs.Listing.{understood, reads_listing, IsSourceOf}
 use Rattle.sqlite.specs.State.{State, HasCleanDisk, KeepsCommit}
@@ -23,18 +18,6 @@ pub record CommitsNothing (old new : State) : Type 0 where
 abbrev pub KeepsCommitted : {A E : Type 0} → Result A E → State → State → Type 0
 KeepsCommitted (Ok answer) old new = ⊤
 KeepsCommitted (Err error) old new = HasCleanDisk new → KeepsCommit old new
-
-abbrev pub is_select : Statement → Bool
-is_select (Select query) = true
-is_select _ = false
-
-abbrev pub is_reading : Checked Parsed → Bool
-is_reading (Ok parsed) = is_select parsed.statement && length parsed.formats == 0
-is_reading (Err error) = false
-
--- a text that is a query, and does not ask for the time
-abbrev pub only_reads : List ℕ → Bool
-only_reads sql = is_reading (first sql)
 
 -- the rows that a query shows of a database
 abbrev pub Answers : List ℕ → Row → Database → List Row → Type 0

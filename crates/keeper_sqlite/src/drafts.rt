@@ -14,6 +14,7 @@ use minute_line::{Bytes, Many, Memory, Monday, Name, history_text};
 use sqlite::types::ValueRef;
 use sqlite::{Alter, Connection, Row, Transaction};
 use std::alloc::Global;
+use store_texts::{draft_query, drivers_query};
 
 /// Whether one of the drivers has that name.
 fn is_named(drivers: &[DraftDriver], name: &Name) -> bool
@@ -87,11 +88,7 @@ fn drivers_in<S: Alter>(
     ensures kept { CommitsNothing (state S.Store tx.old.conn.now) (state S.Store tx.new.conn.now) }
     ensures once { IfOk result (λ drivers. AreNamedOnce (map driver_fields drivers)) }
 {
-    let rows = read(
-        tx,
-        "SELECT driver, seen_monday, seen_past, next_past FROM draft_drivers WHERE monday = ?1 ORDER BY place",
-        &[ValueRef::Int(monday.day as i64)],
-    )?;
+    let rows = read(tx, drivers_query(), &[ValueRef::Int(monday.day as i64)])?;
     drivers_from(alloc, rows.as_slice())
 }
 
@@ -105,11 +102,7 @@ fn draft_in<S: Alter>(
     ensures same { tx.new.conn.ghost_name ≡ tx.old.conn.ghost_name }
     ensures kept { CommitsNothing (state S.Store tx.old.conn.now) (state S.Store tx.new.conn.now) }
 {
-    let rows = read(
-        tx,
-        "SELECT revision, report, export FROM drafts WHERE monday = ?1",
-        &[ValueRef::Int(monday.day as i64)],
-    )?;
+    let rows = read(tx, draft_query(), &[ValueRef::Int(monday.day as i64)])?;
     match rows.first() {
         Some(row) => {
             let drivers = drivers_in(tx, alloc, monday)?;

@@ -13,6 +13,7 @@ use minute_line::Monday;
 use sqlite::types::ValueRef;
 use sqlite::{Alter, Connection, Row, Transaction};
 use std::alloc::Global;
+use store_texts::receipt_query;
 
 /// The issue of a week's row.
 fn issue_from(alloc: Global, monday: Monday, row: &Row) -> Result<Issue, Cause> {
@@ -53,11 +54,7 @@ fn greatest_receipt<S: Alter>(tx: &mut Transaction<'_, S>) -> Result<i64, Cause>
     ensures same { tx.new.conn.ghost_name ≡ tx.old.conn.ghost_name }
     ensures kept { CommitsNothing (state S.Store tx.old.conn.now) (state S.Store tx.new.conn.now) }
 {
-    let rows = read(
-        tx,
-        "SELECT receipt FROM issues ORDER BY receipt DESC LIMIT 1",
-        &[],
-    )?;
+    let rows = read(tx, receipt_query(), &[])?;
     match rows.first() {
         Some(row) => number_at(row, 0),
         None => Ok(0),

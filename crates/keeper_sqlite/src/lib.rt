@@ -11,8 +11,6 @@ mod moving;
 mod opening;
 mod schema;
 mod statements;
-#[cfg(test)]
-mod tests;
 mod values;
 
 pub use causes::Cause;

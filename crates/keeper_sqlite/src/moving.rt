@@ -4,7 +4,8 @@ ghost use Rattle.minute_line.specs.Histories.{fields_of};
 ghost use Rattle.minute_line.specs.Spelling.{older_spelling};
 ghost use Rattle.minute_line.specs.declared.lines.History.{History as AHistory};
 ghost use Rattle.sqlite.specs.Held.{state};
-ghost use Rattle.keeper_sqlite.specs.Commits.{CommitsNothing, only_reads};
+ghost use Rattle.store_texts.specs.Queries.{only_reads};
+ghost use Rattle.keeper_sqlite.specs.Commits.{CommitsNothing};
 ghost use Rattle.keeper_sqlite.specs.Moves.{MovesTo, IsMoved};
 ghost use Rattle.keeper_sqlite.specs.declared.errors.OpenError.TheVariants.{Version};
 
@@ -15,6 +16,7 @@ use minute_line::{Bytes, TextError, history_text, upgrade};
 use sqlite::types::ValueRef;
 use sqlite::{Alter, Row, Transaction};
 use std::alloc::Global;
+use store_texts::{next_pasts_query, pasts_query, seen_pasts_query};
 
 /// The text of today of a history whose older text is given, with the debt that its last weekly rest leaves. `Text` only
 /// where the text is no history's older text.
@@ -101,19 +103,19 @@ pub(crate) fn move_texts<S: Alter>(
     move_column(
         tx,
         alloc,
-        "SELECT rowid, past FROM histories",
+        pasts_query(),
         "UPDATE histories SET past = ?2 WHERE rowid = ?1",
     )?;
     move_column(
         tx,
         alloc,
-        "SELECT rowid, seen_past FROM draft_drivers WHERE seen_past IS NOT NULL",
+        seen_pasts_query(),
         "UPDATE draft_drivers SET seen_past = ?2 WHERE rowid = ?1",
     )?;
     move_column(
         tx,
         alloc,
-        "SELECT rowid, next_past FROM draft_drivers",
+        next_pasts_query(),
         "UPDATE draft_drivers SET next_past = ?2 WHERE rowid = ?1",
     )
 }

@@ -15,6 +15,7 @@ use crate::statements::read;
 use crate::values::number_at;
 use sqlite::{Alter, Connection, Row, Transaction};
 use std::alloc::Global;
+use store_texts::version_query;
 
 /// The version that the rows of table `format` tell, if there is one. Several rows tell version 0, which is none.
 fn version_of(rows: &[Row]) -> Result<Option<i64>, Cause>
@@ -37,7 +38,7 @@ fn stored_version<S: Alter>(tx: &mut Transaction<'_, S>) -> Result<Option<i64>, 
     if !has_table(tx, "format")? {
         return Ok(None);
     }
-    let rows = read(tx, "SELECT version FROM format", &[])?;
+    let rows = read(tx, version_query(), &[])?;
     version_of(rows.as_slice())
 }
 

@@ -8,6 +8,7 @@ use crate::causes::Cause;
 use crate::statements::{read, write};
 use sqlite::types::ValueRef;
 use sqlite::{Alter, Transaction};
+use store_texts::table_query;
 
 /// The version of the stored texts: the histories' texts tell what is owed.
 pub(crate) const VERSION: i64 = 2;
@@ -35,11 +36,7 @@ pub(crate) fn has_table<S: Alter>(tx: &mut Transaction<'_, S>, name: &str) -> Re
     ensures kept { CommitsNothing (state S.Store tx.old.conn.now) (state S.Store tx.new.conn.now) }
     ensures unchanged { HasCleanDisk (state S.Store tx.new.conn.now) → IfOk result (λ _. (state S.Store tx.new.conn.now).now ≡ (state S.Store tx.old.conn.now).now) }
 {
-    let rows = read(
-        tx,
-        "SELECT name FROM sqlite_schema WHERE type = 'table' AND name = ?1",
-        &[ValueRef::Text(name.as_bytes())],
-    )?;
+    let rows = read(tx, table_query(), &[ValueRef::Text(name.as_bytes())])?;
     Ok(!rows.is_empty())
 }
 

@@ -3,7 +3,8 @@ ghost use Rattle.std.specs.Prelude.{◌≡◌, IsTrue, IfOk};
 ghost use Rattle.sqlite.specs.Held.{state};
 ghost use Rattle.sqlite.specs.State.{HasCleanDisk};
 ghost use Rattle.sqlite.specs.Values.{bound};
-ghost use Rattle.keeper_sqlite.specs.Commits.{CommitsNothing, only_reads, Answers};
+ghost use Rattle.store_texts.specs.Queries.{only_reads};
+ghost use Rattle.keeper_sqlite.specs.Commits.{CommitsNothing, Answers};
 
 use crate::causes::Cause;
 use sqlite::types::ValueRef;
