@@ -11,7 +11,7 @@ mod stores;
 use desk::{WANT_OF_MEMORY, run_desk, run_gated};
 use desk_io::{Sink, Source, StdSink, StdSource};
 use desk_keeper::Keeper;
-use desk_words::{Ask, read_words};
+use desk_words::{Ask, WordsError, read_words};
 use minute_line::Memory;
 use progress::Progress;
 use serving::serve;
@@ -20,7 +20,7 @@ use std::io::{ErrorKind, IsTerminal};
 use std::net::{Net, TcpListener, TcpStream};
 use std::process::ExitCode;
 use std::thread::Threads;
-use stores::{empty_keeper, open_file, tell_unopened};
+use stores::{close_file, empty_keeper, open_file, tell_unopened};
 
 /// The words after the program's name; none where the system does not give them as text.
 fn words(rt: &HostRuntime) -> Result<Vec<String>, Memory> {
@@ -70,7 +70,11 @@ fn run_stored<R: Threads + Sync, S: Source, K: Sink>(
     sink: &mut K,
 ) -> u8 {
     match open_file(rt) {
-        Ok(mut keeper) => run_over(threads, rt, words, source, sink, &mut keeper),
+        Ok(mut keeper) => {
+            let status = run_over(threads, rt, words, source, sink, &mut keeper);
+            close_file(keeper);
+            status
+        }
         Err(error) => tell_unopened(rt.alloc(), error, sink),
     }
 }
@@ -92,7 +96,9 @@ where
             run_stored(handles, rt, words, source, sink)
         }
         Ok(Ask::Serve(port, count)) => serve(handles, rt, port, count, sink),
-        _ => {
+        // A run reads the words again: it must not answer from a keeper of nothing what the store was to be asked.
+        Err(WordsError::Memory) => WANT_OF_MEMORY,
+        Ok(Ask::Check | Ask::Make(_, _)) | Err(WordsError::Usage) => {
             let mut keeper = empty_keeper(rt.alloc());
             run_over(handles, rt, words, source, sink, &mut keeper)
         }

@@ -1,5 +1,5 @@
 // The desk over HTTP: so many connections to this machine, one after another.
-use crate::stores::{open_file, tell_unopened};
+use crate::stores::{close_file, open_file, tell_unopened};
 use desk::{WANT_OF_MEMORY, tell};
 use desk_http::serve_link;
 use desk_io::{Link, Sink, StdSink, StdSource};
@@ -96,14 +96,16 @@ pub(crate) fn serve<R, K: Sink>(
 where
     R: Threads + Net<Listener = TcpListener, Stream = TcpStream> + Sync,
 {
+    let Ok(address) = address_of(rt.alloc(), port) else {
+        return WANT_OF_MEMORY;
+    };
     let mut keeper = match open_file(rt) {
         Ok(keeper) => keeper,
         Err(error) => return tell_unopened(rt.alloc(), error, sink),
     };
-    let Ok(address) = address_of(rt.alloc(), port) else {
-        return WANT_OF_MEMORY;
-    };
-    match listen(handles, rt.alloc(), address.as_str(), count, &mut keeper) {
+    let listened = listen(handles, rt.alloc(), address.as_str(), count, &mut keeper);
+    close_file(keeper);
+    match listened {
         Ok(()) => 0,
         Err(_) => tell(sink, b"refused listen\n", LISTEN_FAULT),
     }

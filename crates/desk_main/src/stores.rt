@@ -19,6 +19,12 @@ pub(crate) fn open_file(rt: &HostRuntime) -> Result<SqliteKeeper<FileStore<File>
     open_store(rt.alloc(), connection)
 }
 
+/// Closes the store, so that all that is kept is in its one file. Where that fails, it is in that file and the log beside it, which the
+/// next opening reads.
+pub(crate) fn close_file(keeper: SqliteKeeper<FileStore<File>>) {
+    let _ = keeper.into_connection().close();
+}
+
 /// A keeper in memory that keeps nothing.
 pub(crate) fn empty_keeper(alloc: Global) -> MemoryKeeper {
     MemoryKeeper {
