@@ -1,70 +1,136 @@
 // Devices and keepers that fail, and words that are no command.
 
+ghost use Rattle.std.specs.Prelude.{◌<◌, ◌≤◌};
+
 use crate::running::{WITHOUT_DRIVERS, new_keeper, run_at, says};
 use duty_plan::Straight;
+use minute_line::{Many, Memory};
+use std::alloc::Global;
 use std::test::Fail;
+use std::thread::Threads;
 
 /// The line for words that are no command.
 const USAGE: &str = "usage: desk plan|check|publish|show|export|make|serve [--name value]\n";
 
-#[test]
-fn a_draft_stands_though_the_sink_fails(rt: HostRuntime) -> Result<(), Fail> {
-    let mut keeper = new_keeper(rt.alloc(), 0)?;
+/// The plan of the week without drivers: five pieces of 20 bytes, and one more.
+const PLANNED: &str =
+    "week 2026-03-02\ncost 13500\nbound 13500\nstate proved\nnodes 1\norder A out 9000\norder B out 4500\ndraft 1\n";
+
+/// Whether a plan whose sink fails at that call ends with 6, with what the calls before it wrote, and its draft stands.
+fn has_begun<R: Threads + Sync>(rt: &R, alloc: Global, call: u64) -> Result<bool, Memory>
+    requires { (0 < call) × (call ≤ 6) }
+{
+    let mut keeper = new_keeper(alloc, 0)?;
     let text = WITHOUT_DRIVERS.as_bytes();
     let (status, written) = run_at(
-        &rt,
+        rt,
         &Straight,
-        rt.alloc(),
+        alloc,
         &mut keeper,
         &["plan"],
         text,
         20,
-        (0, 2),
+        (0, call),
     )?;
-    assert_eq!(rt; status, 6);
-    assert!(rt; written.as_slice() == b"week 2026-03-02\ncost".as_slice());
-    assert!(rt; matches!(keeper.drafts.as_slice(), [draft] if draft.revision == 1));
-    Ok(())
+    let whole = written.len() as u64 == 20 * (call - 1);
+    let stands = matches!(keeper.drafts.as_slice(), [draft] if draft.revision == 1);
+    Ok(status == 6 && whole && stands && PLANNED.as_bytes().starts_with(written.as_slice()))
 }
 
-#[test]
-fn a_source_that_fails_is_no_text(rt: HostRuntime) -> Result<(), Fail> {
-    let mut keeper = new_keeper(rt.alloc(), 0)?;
+/// Whether a plan whose source fails at that call is refused, and keeps nothing.
+fn is_unread<R: Threads + Sync>(rt: &R, alloc: Global, call: u64) -> Result<bool, Memory> {
+    let mut keeper = new_keeper(alloc, 0)?;
     let text = WITHOUT_DRIVERS.as_bytes();
     let (status, written) = run_at(
-        &rt,
+        rt,
         &Straight,
-        rt.alloc(),
+        alloc,
         &mut keeper,
         &["plan"],
         text,
-        4096,
-        (1, 0),
+        50,
+        (call, 0),
     )?;
-    assert_eq!(rt; status, 5);
-    assert!(rt; written.as_slice() == b"refused read\n".as_slice());
-    assert!(rt; keeper.drafts.is_empty());
+    Ok(
+        status == 5
+            && keeper.drafts.is_empty()
+            && written.as_slice() == b"refused read\n".as_slice(),
+    )
+}
+
+#[test]
+fn each_call_of_a_sink_may_fail(rt: HostRuntime) -> Result<(), Fail> {
+    for call in 1..7 {
+        assert!(rt; has_begun(&rt, rt.alloc(), call) == Ok(true));
+    }
     Ok(())
 }
 
-// The third call of a keeper for a week without drivers puts the draft.
 #[test]
-fn a_keeper_that_fails_keeps_no_draft(rt: HostRuntime) -> Result<(), Fail> {
-    let alloc = rt.alloc();
-    let mut keeper = new_keeper(alloc, 3)?;
-    let reply = "refused keeper\n";
-    assert!(rt;
-        says(
-            &rt,
-            alloc,
-            &mut keeper,
-            &["plan"],
-            WITHOUT_DRIVERS,
-            7,
-            reply
-        ) == Ok(true)
-    );
-    assert!(rt; keeper.drafts.is_empty() && keeper.faults == 1);
+fn each_call_of_a_source_may_fail(rt: HostRuntime) -> Result<(), Fail> {
+    for call in 1..6 {
+        assert!(rt; is_unread(&rt, rt.alloc(), call) == Ok(true));
+    }
+    Ok(())
+}
+
+/// A week of one driver, whose trip costs 8,000.
+const ONE_DRIVER: &str =
+    "week,2026-03-02,15,3000,15\nplace,HUB\nplace,P\nleg,HUB,P,60,3000\nleg,P,HUB,60,3000\ndriver,D1,24000,2000\nrest,D1,2026-02-28T00:00,2700\nworked,D1,0,0,0,0,0,0,0,0,0,0,0,0,0,0,0,0,0\npast,D1,OFF,2880\norder,A,P,2026-03-02T08:00,2026-03-02T12:00,30,12000,9000\n";
+
+/// Whether a plan of that week ends with 7 where the keeper's call of this number fails, and keeps nothing.
+fn is_not_kept<R: Threads + Sync>(rt: &R, alloc: Global, call: u64) -> Result<bool, Memory> {
+    let mut keeper = new_keeper(alloc, call)?;
+    let told = says(
+        rt,
+        alloc,
+        &mut keeper,
+        &["plan"],
+        ONE_DRIVER,
+        7,
+        "refused keeper\n",
+    )?;
+    Ok(told && keeper.faults == 1 && keeper.drafts.is_empty() && keeper.histories.is_empty())
+}
+
+#[test]
+fn each_call_of_a_keeper_may_fail_in_a_plan(rt: HostRuntime) -> Result<(), Fail> {
+    for call in 1..5 {
+        assert!(rt; is_not_kept(&rt, rt.alloc(), call) == Ok(true));
+    }
+    Ok(())
+}
+
+/// The status of a publication after a plan, where the keeper's call of this number fails in it, and whether the draft alone is kept.
+fn published_at<R: Threads + Sync>(rt: &R, alloc: Global, call: u64) -> Result<(u8, bool), Memory> {
+    let mut keeper = new_keeper(alloc, 0)?;
+    let text = ONE_DRIVER.as_bytes();
+    let plan = ["plan"];
+    let publish = ["publish", "--monday", "2026-03-02", "--rev", "1"];
+    run_at(rt, &Straight, alloc, &mut keeper, &plan, text, 4096, (0, 0))?;
+    keeper.calls = 0;
+    keeper.fails = Many::from_slice(alloc, &[call])?;
+    let (status, _) = run_at(
+        rt,
+        &Straight,
+        alloc,
+        &mut keeper,
+        &publish,
+        &[],
+        4096,
+        (0, 0),
+    )?;
+    let alone = keeper.drafts.len() == 1 && keeper.issues.is_empty() && keeper.histories.is_empty();
+    Ok((status, alone))
+}
+
+// A publication asks for the issue, the draft and what is kept of its driver, and then publishes.
+#[test]
+fn each_call_of_a_keeper_may_fail_in_a_publication(rt: HostRuntime) -> Result<(), Fail> {
+    for call in 1..5 {
+        assert!(rt; published_at(&rt, rt.alloc(), call) == Ok((7, true)));
+    }
+    assert!(rt; published_at(&rt, rt.alloc(), 5) == Ok((0, false)));
     Ok(())
 }
 

@@ -1,0 +1,7 @@
+//! Tests of requests and their answers over links in memory. They stand in a crate of their own, above the planners.
+#![tactic(auto)]
+
+#[cfg(test)]
+mod desks;
+#[cfg(test)]
+mod tests;
