@@ -279,17 +279,26 @@ impl Outlook {
         RING as usize * self.width + self.parts[(spot.minute / self.step) as usize] as usize + self.row(spot)
     }
 
-    fn numbers(&self, spot: Spot) -> &[u64; 32] {
+    fn numbers_in(&self, slot: usize, spot: Spot) -> &[u64; 32] {
         const NONE: &[u64; 32] = &[LIMIT; 32];
-        let slot = match self.entries.get(self.ring_slot(spot)) {
-            Some(entry) if entry.spot.minute == spot.minute => self.ring_slot(spot),
-            _ => self.kept_slot(spot),
-        };
         match self.entries.get(slot) {
             Some(Entry { spot: at, numbers })
                 if at.place == spot.place && at.minute <= spot.minute && at.orders & !spot.orders == 0 => numbers,
             _ => NONE,
         }
+    }
+
+    fn numbers(&self, spot: Spot) -> &[u64; 32] {
+        let slot = match self.entries.get(self.ring_slot(spot)) {
+            Some(entry) if entry.spot.minute == spot.minute => self.ring_slot(spot),
+            _ => self.kept_slot(spot),
+        };
+        self.numbers_in(slot, spot)
+    }
+
+    // Once the table is filled, of later minutes none but those that are kept are left.
+    fn last_numbers(&self, spot: Spot) -> &[u64; 32] {
+        if spot.minute < RING { self.numbers(spot) } else { self.numbers_in(self.kept_slot(spot), spot) }
     }
 
     fn choice(&self, asked: &Asked, walks: &Walks, place: u32, part: u32, most: u32) -> u128 {
@@ -386,7 +395,7 @@ impl Outlook {
 
     fn gain(&self, label: &Label) -> i64 {
         let load = if label.loaded { label.used } else { self.capacity + 1 };
-        let row = self.numbers(Spot { place: label.place, minute: label.clock.at, orders: label.served | self.barred });
+        let row = self.last_numbers(Spot { place: label.place, minute: label.clock.at, orders: label.served | self.barred });
         row[(load / self.unit).min(31) as usize].min(LIMIT) as i64 - NOTHING as i64
     }
 }
@@ -432,13 +441,13 @@ impl Beam {
     fn keep(&mut self, node: Node, forced: u128) {
         let bucket = (node.label.clock.at / 15) as usize;
         let all = u128::MAX;
-        if self.bucket(bucket).iter().map(|n| &self.nodes[*n as usize].label).any(|a| a.fee_paid && betters(a, &node.label, forced, all)) {
+        if self.bucket(bucket).iter().map(|n| &self.nodes[*n as usize].label).any(|a| a.fee_paid && a.place == node.label.place && betters(a, &node.label, forced, all)) {
             return;
         }
         if node.label.fee_paid {
             for place in 0..self.counts[bucket] {
                 let other = &mut self.nodes[self.members[bucket * WIDEST + place] as usize];
-                if !other.is_extended && betters(&node.label, &other.label, forced, all) {
+                if !other.is_extended && other.label.place == node.label.place && betters(&node.label, &other.label, forced, all) {
                     other.bound = i64::MAX;
                 }
             }

@@ -18,7 +18,8 @@ use Rattle.desk_core.specs.Planning.{Book, case_said}
 use Rattle.desk_words.specs.declared.asks.Ask.{Ask}
 use Rattle.desk_words.specs.declared.asks.Ask.TheVariants.{Plan, Check, Publish, Show, Export, Make, Serve}
 use Rattle.desk.specs.Office.{Shelf, Office}
-use Rattle.desk.specs.Saying.{Said, usage, read_fault, keeper_fault, done, status_of, text_limit, IsRefused, SaysReply, SaysSolved, SaysMade}
+use Rattle.desk_csv.specs.declared.reading.TheConstants.{TEXT_LIMIT}
+use Rattle.desk.specs.Saying.{Said, usage, read_fault, keeper_fault, done, status_of, IsRefused, SaysReply, SaysSolved, SaysMade}
 use Rattle.desk.specs.Running.{Plays, SaysText, PlaysText, SaysAsked}
 use Rattle.desk.specs.Causes.{IsNoCommand, Reads, AsksKeeper, RefusesText, RefusesKept, IsStep}
 use Rattle.desk.proofs.RefusalKinds.{either, text-three, check-three, kept-four, issue-four}
@@ -64,8 +65,8 @@ played asked before after said command plays same cause =
 
 -- a text: the source failed, or gave too much, or its command was played
 read : (asked : Option Ask) (before after : Office) (said : Said) (command : List ℕ → Command) → SaysText command before after said
-    → ((given : List ℕ) → GivesBytes before.source.bytes given after.source.bytes → text_limit < length given → RefusesText asked before after Long)
-    → ((given : List ℕ) (refusal : Refusal) → GivesBytes before.source.bytes given after.source.bytes → length given ≤ text_limit
+    → ((given : List ℕ) → GivesBytes before.source.bytes given after.source.bytes → TEXT_LIMIT < length given → RefusesText asked before after Long)
+    → ((given : List ℕ) (refusal : Refusal) → GivesBytes before.source.bytes given after.source.bytes → length given ≤ TEXT_LIMIT
     → NothingLeft after.source.bytes → IsRefusal (command given) refusal → IsStep (command given) before.shelf after.shelf refusal
     → IsCause asked before after refusal)
     → Hinted asked before after said
@@ -77,7 +78,7 @@ read asked before after said command (given, gives, inr (inr all)) long cause =
     played asked before after said (command given) all.3 all.2 (λ refusal is step. cause given refusal gives all.0 all.1 is step)
 
 plan-cause : (limits : Limits) (before after : Office) (given : List ℕ) (refusal : Refusal) → GivesBytes before.source.bytes given after.source.bytes
-    → length given ≤ text_limit → NothingLeft after.source.bytes → IsPlanRefusal given refusal
+    → length given ≤ TEXT_LIMIT → NothingLeft after.source.bytes → IsPlanRefusal given refusal
     → IsStep (command.Plan given limits) before.shelf after.shelf refusal → IsCause (Some (Plan limits)) before after refusal
 plan-cause limits before after given refusal gives within ended (inl text) step =
     inl (inr (given, gives, within, ended, text), text-three given refusal text)

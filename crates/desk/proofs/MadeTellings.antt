@@ -1,6 +1,6 @@
 -- A made week, from its parts.
 use Rattle.std.specs.Prelude.{⊤}
-use Rattle.std.proofs.Common.{◌≡◌, ◌<◌, ℕ, inl, inr, refl, sym, ◌∙◌, ap, subst, List, length, Option, Some, Result, Ok, Err}
+use Rattle.std.proofs.Common.{◌≡◌, ℕ, inl, inr, refl, sym, ◌∙◌, ap, subst, List, Some, Ok}
 use Rattle.week_maker.specs.MadeWeeks.{made_text}
 use Rattle.duty_plan.specs.declared.outcomes.Limits.{Limits}
 use Rattle.duty_plan.specs.declared.outcomes.Outcome.{Outcome}
@@ -8,40 +8,22 @@ use Rattle.duty_plan.specs.declared.plans.Case.{Case}
 use Rattle.duty_plan.specs.Duties.{IsCase}
 use Rattle.duty_plan.specs.Trees.{IsRight}
 use Rattle.desk_report.specs.Summaries.{summary_text}
-use Rattle.desk_core.specs.declared.refusals.Refusal.{Refusal}
-use Rattle.desk_core.specs.declared.refusals.Refusal.TheVariants.{Long}
-use Rattle.desk_core.specs.declared.refusals.Stop.{Stop}
-use Rattle.desk_core.specs.declared.refusals.Stop.TheVariants.{Refused, Fault, Memory}
 use Rattle.desk_core.specs.Books.{book}
-use Rattle.desk_core.specs.Causes.{HasCause, StopsFor}
-use Rattle.desk_core.specs.Planning.{Book, case_said}
-use Rattle.desk_core.specs.Refusing.{Meets}
+use Rattle.desk_core.specs.Planning.{case_said}
 use Rattle.desk_words.specs.declared.asks.Ask.{Ask}
 use Rattle.desk_words.specs.declared.asks.Ask.TheVariants.{Make}
 use Rattle.desk.specs.Office.{Device, Shelf, office}
-use Rattle.desk.specs.Saying.{Said, done, made_rows, text_limit, IsRefused, SaysSolved, SaysMade, AnswersMade}
+use Rattle.week_maker.specs.declared.weeks.TheConstants.{ROW_COUNT}
+use Rattle.desk.specs.Saying.{done, SaysSolved, SaysMade, AnswersMade}
 use Rattle.desk.specs.Running.{IsTold, Runs}
 
 -- the summary of a made text that was planned
 pub summed-up : (seed : ℕ) (limits : Limits) (text summary : List ℕ) (case : Case) (outcome : Outcome) → text ≡ made_text seed
-    → case_said text ≡ Ok (book case) → IsCase case → IsRight case limits outcome → summary ≡ summary_text seed case.week made_rows outcome
+    → case_said text ≡ Ok (book case) → IsCase case → IsRight case limits outcome → summary ≡ summary_text seed case.week ROW_COUNT outcome
     → AnswersMade seed limits (Ok summary)
 summed-up seed limits text summary case outcome made said valid right is =
     inr (subst (λ r. SaysSolved seed limits r (done summary)) (sym (ap case_said (sym made) ∙ said))
     (record { case = case; is_said = refl; valid = valid; outcome = outcome; right = right; told = ap done is }))
-
--- a made text that was not planned
-pub stopped : {A : Type 0} (seed : ℕ) (limits : Limits) (text : List ℕ) (view : A → Book) (stop : Stop) → text ≡ made_text seed
-    → Meets view (Err stop) (case_said text) → StopsFor HasCause stop → AnswersMade seed limits (Err stop)
-stopped seed limits text view (Refused refusal) made meets cause =
-    λ said is. inr (subst (λ r. SaysSolved seed limits r said) (sym (ap case_said (sym made) ∙ meets)) (is, cause))
-stopped seed limits text view Fault made meets cause = absurd meets
-stopped seed limits text view Memory made meets cause = tt
-
--- a made text that is too long
-pub long : (seed : ℕ) (limits : Limits) (text : List ℕ) → text ≡ made_text seed → text_limit < length text
-    → AnswersMade seed limits (Err (Refused Long))
-long seed limits text made longer = λ said is. inl (subst (λ t. text_limit < length t) made longer, is)
 
 -- a made week that is told is a run
 pub told-made : (ask : Ask) (seed : ℕ) (limits : Limits) (source held holds : Device) (kept : Shelf) (status : ℕ) → ask ≡ Make seed limits

@@ -31,7 +31,9 @@ use Rattle.desk_core.proofs.Verdicts.{lines_are_verdicts}
 use Rattle.desk_words.specs.declared.asks.Ask.{Ask}
 use Rattle.desk_words.specs.declared.asks.Ask.TheVariants.{Plan, Check, Make}
 use Rattle.desk.specs.Office.{Shelf, Office}
-use Rattle.desk.specs.Saying.{Said, made_rows, text_limit, IsRefused, SaysReply, SaysSolved, SaysMade, IsSummaryOf}
+use Rattle.desk_csv.specs.declared.reading.TheConstants.{TEXT_LIMIT}
+use Rattle.week_maker.specs.declared.weeks.TheConstants.{ROW_COUNT}
+use Rattle.desk.specs.Saying.{Said, IsRefused, SaysReply, SaysSolved, SaysMade, IsSummaryOf}
 use Rattle.desk.specs.Running.{Plays, SaysText, SaysAsked, Runs}
 use Rattle.desk.specs.Succeeding.{IsSound, IsDrafted, IsPlanned, IsMade, IsChecked}
 use Rattle.desk.proofs.Budgets.{exact}
@@ -84,7 +86,7 @@ record IsDoneText (command : List ℕ → Command) (before after : Office) (told
   pub text : List ℕ
   pub given : GivesBytes before.source.bytes text after.source.bytes
   pub ended : NothingLeft after.source.bytes
-  pub within : length text ≤ text_limit
+  pub within : length text ≤ TEXT_LIMIT
   pub done : IsDoneWith (command text) before.shelf after.shelf told
 
 done-text : (command : List ℕ → Command) (before after : Office) (said : Said) → SaysText command before after said → said.status ≡ 0

@@ -15,10 +15,13 @@ use Rattle.desk_core.specs.Drafting.{WeekText, text_said}
 use Rattle.desk_core.specs.Lines.{IsRefusalText}
 use Rattle.desk_core.specs.Machine.{IsReply}
 use Rattle.desk_core.specs.Planning.{case_said}
+use Rattle.desk_words.specs.Asks.{asked_by}
 use Rattle.desk_words.specs.declared.asks.Ask.{Ask}
 use Rattle.desk_words.specs.declared.asks.Ask.TheVariants.{Plan, Check, Publish, Show, Export, Make, Serve}
 use Rattle.desk.specs.Office.{Shelf, Office}
-use Rattle.desk.specs.Saying.{text_limit, status_of}
+use Rattle.desk_csv.specs.declared.reading.TheConstants.{TEXT_LIMIT}
+use Rattle.desk.specs.Saying.{status_of}
+use Rattle.desk.specs.Running.{Runs}
 use Rattle.desk.specs.Succeeding.{IsPlanned, IsMade, IsChecked}
 
 -- the words are no command, or ask for a server, which is no single run
@@ -43,12 +46,12 @@ AsksKeeper _ = ⊥
 
 -- a text was read to its end, of which this holds
 abbrev pub HasText : (List ℕ → Type 0) → Office → Office → Type 0
-HasText holds before after = (text : List ℕ) × GivesBytes before.source.bytes text after.source.bytes × (length text ≤ text_limit)
+HasText holds before after = (text : List ℕ) × GivesBytes before.source.bytes text after.source.bytes × (length text ≤ TEXT_LIMIT)
     × NothingLeft after.source.bytes × holds text
 
 -- more bytes were read than a text may have
 abbrev pub IsLong : Office → Office → Type 0
-IsLong before after = (given : List ℕ) × GivesBytes before.source.bytes given after.source.bytes × (text_limit < length given)
+IsLong before after = (given : List ℕ) × GivesBytes before.source.bytes given after.source.bytes × (TEXT_LIMIT < length given)
 
 -- a text is too long, or was read to its end and is refused
 abbrev pub RefusesRead : (List ℕ → Type 0) → Office → Office → Refusal → Type 0
@@ -59,7 +62,7 @@ abbrev pub RefusesText : Option Ask → Office → Office → Refusal → Type 0
 RefusesText (Some (Plan limits)) before after refusal = RefusesRead (λ text. text_said text ≡ Err refusal) before after refusal
 RefusesText (Some Check) before after refusal = RefusesRead (λ text. check_said text ≡ Err refusal) before after refusal
 RefusesText (Some (Make seed limits)) before after refusal =
-    ((refusal ≡ Long) × (text_limit < length (made_text seed))) ⊎ (case_said (made_text seed) ≡ Err refusal)
+    ((refusal ≡ Long) × (TEXT_LIMIT < length (made_text seed))) ⊎ (case_said (made_text seed) ≡ Err refusal)
 RefusesText _ before after refusal = ⊥
 
 -- where the tables are told, the refusal is that of the machine
@@ -114,3 +117,8 @@ pub record Shows (asked : Option Ask) (before after : Office) (status : ℕ) : T
   pub wants : status ≡ 8 → (after.sink ≡ before.sink) × (after.shelf ≡ before.shelf)
   pub source_stays : ¬ Reads asked → after.source ≡ before.source
   pub keeper_stays : ¬ AsksKeeper asked → after.shelf ≡ before.shelf
+
+-- a run, by its words: what is said of what they ask for is told with its status, and what the status says holds
+pub record IsRun (words : List (List ℕ)) (before after : Office) (status : ℕ) : Type 0 where
+  pub run : Runs (asked_by words) before after status
+  pub shows : Shows (asked_by words) before after status

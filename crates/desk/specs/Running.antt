@@ -13,7 +13,8 @@ use Rattle.desk_core.specs.Machine.{IsReply, failed_after}
 use Rattle.desk_words.specs.declared.asks.Ask.{Ask}
 use Rattle.desk_words.specs.declared.asks.Ask.TheVariants.{Plan, Check, Publish, Show, Export, Make, Serve}
 use Rattle.desk.specs.Office.{Device, Shelf, Office}
-use Rattle.desk.specs.Saying.{Said, usage, read_fault, text_limit, IsRefused, SaysReply, SaysMade}
+use Rattle.desk_csv.specs.declared.reading.TheConstants.{TEXT_LIMIT}
+use Rattle.desk.specs.Saying.{Said, usage, read_fault, IsRefused, SaysReply, SaysMade}
 
 -- a command was played on the shelf, and this is said of its reply: a step of the machine, where the tables are told, and an answer
 -- over every keeper. A check leaves the shelf alone
@@ -33,12 +34,12 @@ SaysFault before after said =
 -- what is said of more bytes than a text may have
 abbrev pub SaysLong : List ℕ → Office → Office → Said → Type 0
 SaysLong given before after said =
-    (text_limit < length given) × IsRefused Long said × (after.source.faults ≡ before.source.faults) × (after.shelf ≡ before.shelf)
+    (TEXT_LIMIT < length given) × IsRefused Long said × (after.source.faults ≡ before.source.faults) × (after.shelf ≡ before.shelf)
 
 -- a text was read to its end, and its command was played
 abbrev pub PlaysText : (List ℕ → Command) → List ℕ → Office → Office → Said → Type 0
 PlaysText command given before after said =
-    (length given ≤ text_limit) × NothingLeft after.source.bytes × (after.source.faults ≡ before.source.faults)
+    (length given ≤ TEXT_LIMIT) × NothingLeft after.source.bytes × (after.source.faults ≡ before.source.faults)
     × Plays (command given) before.shelf after.shelf said
 
 -- what is said once bytes were given: the source failed; or they are too many; or they are all, and make the text of a command

@@ -6,6 +6,8 @@ use Rattle.duty_plan.specs.declared.plans.Case.{Case}
 use Rattle.duty_plan.specs.Duties.{IsCase}
 use Rattle.duty_plan.specs.Trees.{IsRight}
 use Rattle.week_maker.specs.MadeWeeks.{made_text}
+use Rattle.week_maker.specs.declared.weeks.TheConstants.{ROW_COUNT}
+use Rattle.desk_csv.specs.declared.reading.TheConstants.{TEXT_LIMIT}
 use Rattle.desk_core.specs.declared.commands.Reply.{Reply}
 use Rattle.desk_core.specs.declared.commands.Reply.TheVariants.{Done, Refused, KeeperFault, Memory}
 use Rattle.desk_core.specs.declared.refusals.Refusal.{Refusal}
@@ -14,7 +16,7 @@ use Rattle.desk_core.specs.declared.refusals.Stop.{Stop}
 use Rattle.desk_core.specs.declared.refusals.Stop.TheVariants as stop
 use Rattle.desk_core.specs.Books.{book}
 use Rattle.desk_core.specs.Causes.{HasCause}
-use Rattle.desk_core.specs.Lines.{IsRefusalText}
+use Rattle.desk_core.specs.Lines.{IsRefusalText, keeper_fault_line}
 use Rattle.desk_core.specs.Planning.{Book, case_said}
 use Rattle.desk_report.specs.Summaries.{summary_text}
 
@@ -37,7 +39,7 @@ read_fault = line_said 5 (codes "refused read")
 
 -- the keeper failed
 abbrev pub keeper_fault : Said
-keeper_fault = line_said 7 (codes "refused keeper")
+keeper_fault = record { status = 7; text = keeper_fault_line }
 
 -- the command was done, and this is its text
 abbrev pub done : List ℕ → Said
@@ -63,14 +65,6 @@ SaysReply (Refused refusal) said = IsRefused refusal said
 SaysReply KeeperFault said = said ≡ keeper_fault
 SaysReply Memory said = ⊥
 
--- the most bytes of a text
-abbrev pub text_limit : ℕ
-text_limit = 1048576
-
--- the rows of a made week's text
-abbrev pub made_rows : ℕ
-made_rows = 148
-
 -- what is said is the summary of an outcome that is right within the limits, of the case that is said
 pub record IsSummaryOf (seed : ℕ) (limits : Limits) (of : Book) (said : Said) : Type 0 where
   pub case : Case
@@ -78,7 +72,7 @@ pub record IsSummaryOf (seed : ℕ) (limits : Limits) (of : Book) (said : Said) 
   pub valid : IsCase case
   pub outcome : Outcome
   pub right : IsRight case limits outcome
-  pub told : said ≡ done (summary_text seed case.week made_rows outcome)
+  pub told : said ≡ done (summary_text seed case.week ROW_COUNT outcome)
 
 -- what is said of a made text by what it comes to: the summary of its plan, or its refusal
 abbrev pub SaysSolved : ℕ → Limits → Result Book Refusal → Said → Type 0
@@ -88,7 +82,7 @@ SaysSolved seed limits (Err refusal) said = IsRefused refusal said × HasCause r
 -- what is said of the week that a seed makes, which is a text as any other
 abbrev pub SaysMade : ℕ → Limits → Said → Type 0
 SaysMade seed limits said =
-    ((text_limit < length (made_text seed)) × IsRefused Long said) ⊎ SaysSolved seed limits (case_said (made_text seed)) said
+    ((TEXT_LIMIT < length (made_text seed)) × IsRefused Long said) ⊎ SaysSolved seed limits (case_said (made_text seed)) said
 
 -- a made week comes to the text that is said of it, or to its refusal, unless memory was wanted
 abbrev pub AnswersMade : ℕ → Limits → Result (List ℕ) Stop → Type 0

@@ -32,7 +32,8 @@ use Rattle.desk_core.specs.Answering.{HoldsTheTexts}
 use Rattle.desk_core.specs.Checking.{check_said}
 use Rattle.desk_core.specs.Laws.{AreVerdicts}
 use Rattle.desk.specs.Office.{Office}
-use Rattle.desk.specs.Saying.{text_limit, made_rows}
+use Rattle.desk_csv.specs.declared.reading.TheConstants.{TEXT_LIMIT}
+use Rattle.week_maker.specs.declared.weeks.TheConstants.{ROW_COUNT}
 
 -- a leaf that has no Free pair wanted labels in a round of its run: there were fewer chunks of them than drivers, or label
 -- lists of all drivers filled the chunks
@@ -83,7 +84,7 @@ pub record IsPlanned (limits : Limits) (before after : Office) : Type 0 where
   pub text : List ℕ
   pub given : GivesBytes before.source.bytes text after.source.bytes
   pub ended : NothingLeft after.source.bytes
-  pub within : length text ≤ text_limit
+  pub within : length text ≤ TEXT_LIMIT
   pub read : WeekText
   pub accepted : text_said text ≡ Ok read
   pub case : Case
@@ -104,7 +105,7 @@ pub record IsMade (seed : ℕ) (limits : Limits) (before after : Office) : Type 
   pub accepted : case_said (made_text seed) ≡ Ok (book case)
   pub valid : IsCase case
   pub outcome : Outcome
-  pub printed : Takes before.sink.bytes (summary_text seed case.week made_rows outcome) after.sink.bytes
+  pub printed : Takes before.sink.bytes (summary_text seed case.week ROW_COUNT outcome) after.sink.bytes
   pub sound : IsSound case limits outcome
 
 -- a check text was read to its end and accepted; the sink holds its lines after what it held: one a driver, in their

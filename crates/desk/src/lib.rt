@@ -4,4 +4,4 @@
 mod making;
 mod running;
 
-pub use running::{KEEPER_FAULT, WANT_OF_MEMORY, run_desk, run_gated, tell};
+pub use running::{WANT_OF_MEMORY, run_desk, run_gated, tell};

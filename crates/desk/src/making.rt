@@ -1,13 +1,15 @@
 // The week that a seed makes: planned, and summed up.
 ghost use Rattle.std.specs.Prelude.{◌≡◌, ◌≤◌, ⊤, length};
+ghost use Rattle.desk_csv.specs.declared.reading.TheConstants.{TEXT_LIMIT};
 ghost use Rattle.duty_plan.specs.Trees.{IsLimits};
 ghost use Rattle.week_maker.specs.MadeWeeks.{made_text};
 ghost use Rattle.desk.specs.Office.{device};
-ghost use Rattle.desk.specs.Saying.{text_limit, SaysMade, AnswersMade};
+ghost use Rattle.desk.specs.Saying.{SaysMade, AnswersMade};
 ghost use Rattle.desk.specs.Running.{IsTold};
 
-use crate::running::{TEXT_LIMIT, WANT_OF_MEMORY, tell, tell_refusal};
+use crate::running::{WANT_OF_MEMORY, tell, tell_refusal};
 use desk_core::{Refusal, Solved, Stop, solve_text};
+use desk_csv::TEXT_LIMIT;
 use desk_io::Sink;
 use desk_report::summary;
 use duty_plan::{Gate, Limits};
@@ -15,10 +17,7 @@ use minute_line::Bytes;
 use planners::TurnPlanner;
 use std::alloc::Global;
 use std::thread::Threads;
-use week_maker::make_week;
-
-/// The rows of a made week's text.
-const MADE_ROWS: u64 = 148;
+use week_maker::{ROW_COUNT, make_week};
 
 /// The summary of a made text, planned with the histories that it has; or why it is refused, as any text.
 fn planned<R: Threads + Sync>(
@@ -31,11 +30,11 @@ fn planned<R: Threads + Sync>(
 ) -> Result<Bytes, Stop>
     requires limits { IsLimits limits.now }
     requires made { text.now ≡ made_text seed }
-    requires length { length text.now ≤ text_limit }
+    requires length { length text.now ≤ TEXT_LIMIT }
     ensures { AnswersMade seed limits.now result }
 {
     let Solved { case, outcome } = solve_text(rt, gate, alloc, text, limits, &mut TurnPlanner)?;
-    Ok(summary(alloc, seed, &case.week, MADE_ROWS, &outcome)?)
+    Ok(summary(alloc, seed, &case.week, ROW_COUNT, &outcome)?)
 }
 
 /// The summary of the week that a seed makes.

@@ -8,10 +8,11 @@ ghost use Rattle.desk_words.specs.Asked.{IsAsked};
 ghost use Rattle.desk.specs.Office.{device, shelf, office};
 ghost use Rattle.desk.specs.Saying.{IsRefused, status_of};
 ghost use Rattle.desk.specs.Running.{Tells, IsTold, PlaysOut, TellsUnread, Runs};
-ghost use Rattle.desk.specs.Causes.{Shows};
+ghost use Rattle.desk.specs.Causes.{IsRun};
 
 use crate::making::make;
-use desk_core::{Command, Refusal, Reply, refusal_line, step};
+use desk_core::{Command, KEEPER_FAULT, Refusal, Reply, refusal_line, step};
+use desk_csv::TEXT_LIMIT;
 use desk_io::{ReadError, Sink, SinkFault, Source, read_all, write_all};
 use desk_keeper::Keeper;
 use desk_words::{Ask, WordsError, read_words};
@@ -21,17 +22,11 @@ use planners::PoolPlanner;
 use std::alloc::Global;
 use std::thread::Threads;
 
-/// The most bytes of a text.
-pub(crate) const TEXT_LIMIT: usize = 1_048_576;
-
 /// The line for words that are no command.
 const USAGE: &[u8] = b"usage: desk plan|check|publish|show|export|make|serve [--name value]\n";
 
 /// The line for a source that failed.
 const READ_FAULT: &[u8] = b"refused read\n";
-
-/// The line for a keeper that failed.
-pub const KEEPER_FAULT: &[u8] = b"refused keeper\n";
 
 /// The status of want of memory, with which nothing is written.
 pub const WANT_OF_MEMORY: u8 = 8;
@@ -214,12 +209,7 @@ pub fn run_gated<R: Threads + Sync, S: Source, K: Sink, B: Keeper>(
     sink: &mut K,
     keeper: &mut B,
 ) -> u8
-    // What is said of what the words ask for is told to the sink with its status.
-    ensures run { Runs (asked_by (map string_bytes words.now.items)) (office (device (S.left source.old) (S.faults source.old)) (device (K.held sink.old) (K.faults sink.old)) (shelf (B.tables keeper.old) (B.faults keeper.old)))
-        (office (device (S.left source.new) (S.faults source.new)) (device (K.held sink.new) (K.faults sink.new)) (shelf (B.tables keeper.new) (B.faults keeper.new))) result }
-
-    // What the status says: of a plan, a made week and a check that succeed, and of each cause.
-    ensures shows { Shows (asked_by (map string_bytes words.now.items)) (office (device (S.left source.old) (S.faults source.old)) (device (K.held sink.old) (K.faults sink.old)) (shelf (B.tables keeper.old) (B.faults keeper.old)))
+    ensures { IsRun (map string_bytes words.now.items) (office (device (S.left source.old) (S.faults source.old)) (device (K.held sink.old) (K.faults sink.old)) (shelf (B.tables keeper.old) (B.faults keeper.old)))
         (office (device (S.left source.new) (S.faults source.new)) (device (K.held sink.new) (K.faults sink.new)) (shelf (B.tables keeper.new) (B.faults keeper.new))) result }
 {
     run(rt, gate, alloc, words, source, sink, keeper)
@@ -234,12 +224,7 @@ pub fn run_desk<R: Threads + Sync, S: Source, K: Sink, B: Keeper>(
     sink: &mut K,
     keeper: &mut B,
 ) -> u8
-    // What is said of what the words ask for is told to the sink with its status.
-    ensures run { Runs (asked_by (map string_bytes words.now.items)) (office (device (S.left source.old) (S.faults source.old)) (device (K.held sink.old) (K.faults sink.old)) (shelf (B.tables keeper.old) (B.faults keeper.old)))
-        (office (device (S.left source.new) (S.faults source.new)) (device (K.held sink.new) (K.faults sink.new)) (shelf (B.tables keeper.new) (B.faults keeper.new))) result }
-
-    // What the status says: of a plan, a made week and a check that succeed, and of each cause.
-    ensures shows { Shows (asked_by (map string_bytes words.now.items)) (office (device (S.left source.old) (S.faults source.old)) (device (K.held sink.old) (K.faults sink.old)) (shelf (B.tables keeper.old) (B.faults keeper.old)))
+    ensures { IsRun (map string_bytes words.now.items) (office (device (S.left source.old) (S.faults source.old)) (device (K.held sink.old) (K.faults sink.old)) (shelf (B.tables keeper.old) (B.faults keeper.old)))
         (office (device (S.left source.new) (S.faults source.new)) (device (K.held sink.new) (K.faults sink.new)) (shelf (B.tables keeper.new) (B.faults keeper.new))) result }
 {
     run_gated(rt, &Straight, alloc, words, source, sink, keeper)

@@ -17,7 +17,7 @@ use Rattle.desk_csv.specs.declared.errors.Form.{Form}
 use Rattle.desk_csv.specs.declared.errors.CsvError.{CsvError}
 use Rattle.desk_csv.specs.declared.errors.CsvError.TheVariants as fault
 use Rattle.desk_csv.specs.DateTests.{is_day_text, monday_of}
-use Rattle.desk_csv.specs.Fields.{Record, ◌>>=◌, field, counted, number_at, monday_at}
+use Rattle.desk_csv.specs.Fields.{Record, ◌>>=◌, field, counted, number_at, monday_said, monday_at}
 use Rattle.desk_csv.specs.RowKinds.{week_at, row_at}
 use Rattle.desk_csv.specs.Reading.{first_monday, rows_from, rows_in, rows_of, records_of}
 use Rattle.desk_csv.proofs.Begun.{bind_ok, ok_same}
@@ -46,15 +46,19 @@ some_ok (Some x) e m h = ap Some (ok_same x m h)
 some_ok None e m h = cc h
 
 -- the Monday of a text that is a day
-of_text : (t : List ℕ) (e : CsvError) (is : Bool) (m : Monday) → is_day_text t ≡ is → (if is then ok_or (monday_of (text_day t)) e else Err e) ≡ Ok m → m.day ≤ℤ pos 47478
-of_text t e true m same h =
-    let day : m.day ≡ text_day t = monday_day (text_day t) m (some_ok (monday_of (text_day t)) e m h) in
+of_text : (t : List ℕ) (is : Bool) (m : Monday) → is_day_text t ≡ is → (if is then monday_of (text_day t) else None) ≡ Some m → m.day ≤ℤ pos 47478
+of_text t true m same h =
+    let day : m.day ≡ text_day t = monday_day (text_day t) m h in
     last_monday m (rw day (last_day t (day_fact t same).1))
-of_text t e false m same h = cc h
+of_text t false m same h = cc h
+
+of_said : (t : List ℕ) (m : Monday) → monday_said t ≡ Some m → m.day ≤ℤ pos 47478
+unfolding monday_said
+of_said t m h = of_text t (is_day_text t) m refl h
 
 of_field : (n k : ℕ) (fields : Record) (m : Monday) → monday_at n k fields ≡ Ok m → m.day ≤ℤ pos 47478
 unfolding monday_at
-of_field n k fields m h = of_text (field k fields) (fault.Stamp n k) (is_day_text (field k fields)) m refl h
+of_field n k fields m h = of_said (field k fields) m (some_ok (monday_said (field k fields)) (fault.Stamp n k) m h)
 
 -- a week row has such a Monday
 abbrev HasMonday : Row → Type 0

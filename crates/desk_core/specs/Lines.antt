@@ -16,6 +16,10 @@ use Rattle.driver_history.specs.declared.errors.LineError.TheVariants as line
 use Rattle.desk_core.specs.declared.refusals.Refusal.{Refusal}
 use Rattle.desk_core.specs.declared.refusals.Refusal.TheVariants.{Long, Csv, Week, Past, Line, Published, NoDraft, Stale, Moved, Kept, Later, NoHistory, DraftsFull}
 
+-- the line for a keeper that failed
+abbrev pub keeper_fault_line : List ℕ
+keeper_fault_line = codes "refused keeper\n"
+
 -- a line's words, each as its bytes
 abbrev pub Words : Type 0
 Words = List (List ℕ)

@@ -4,6 +4,7 @@ use Rattle.duty_plan.specs.declared.outcomes.Limits.{Limits}
 use Rattle.duty_plan.specs.Trees.{IsLimits}
 use Rattle.desk_io.specs.Device.{counted_up}
 use Rattle.minute_line.specs.declared.dates.Monday.{Monday}
+use Rattle.desk_csv.specs.declared.reading.TheConstants.{TEXT_LIMIT}
 use Rattle.desk_keeper.specs.Tables.{Tables, DraftFields}
 use Rattle.desk_keeper.specs.Entries.{next_receipt}
 use Rattle.desk_keeper.specs.Changes.{with_draft, with_issue}
@@ -21,8 +22,8 @@ use Rattle.desk_core.specs.Replies.{IsDone}
 
 -- a command that can be asked: its text has at most 1,048,576 bytes, and a search may be given its limits
 abbrev pub IsCommand : Command → Type 0
-IsCommand (ask.Plan text limits) = (length text ≤ 1048576) × IsLimits limits
-IsCommand (ask.Check text) = length text ≤ 1048576
+IsCommand (ask.Plan text limits) = (length text ≤ TEXT_LIMIT) × IsLimits limits
+IsCommand (ask.Check text) = length text ≤ TEXT_LIMIT
 IsCommand (ask.Publish monday revision) = ⊤
 IsCommand (ask.Show monday) = ⊤
 IsCommand (ask.Export monday) = ⊤

@@ -5,6 +5,7 @@ ghost use Rattle.minute_line.specs.Writing.{with_words};
 ghost use Rattle.minute_line.specs.Histories.{fields_of};
 ghost use Rattle.minute_line.specs.Minutes.{total_of};
 ghost use Rattle.week_book.specs.Pasts.{HasPastRows};
+ghost use Rattle.desk_csv.specs.declared.reading.TheConstants.{TEXT_LIMIT};
 ghost use Rattle.desk_core.specs.Refusing.{Meets};
 ghost use Rattle.desk_core.specs.Causes.{HasCause, RefusedFor};
 ghost use Rattle.desk_core.specs.Checking.{or_fresh, broken_words, line_or_refusal, verdict_line, driver_said, drivers_said, check_said};
@@ -93,7 +94,7 @@ fn lines_in(alloc: Global, rows: &Many<Row>, names: &[Name]) -> Result<Bytes, St
 /// the first week minute at which a rule fails and the least rule there. A driver without history rows is judged after
 /// `fresh`.
 pub fn check_text(alloc: Global, text: &Bytes) -> Result<Bytes, Stop>
-    requires { length text.now ≤ 1048576 }
+    requires { length text.now ≤ TEXT_LIMIT }
     ensures lines { Meets (λ lines. lines) result (check_said text.now) }
     ensures cause { RefusedFor HasCause result }
 {

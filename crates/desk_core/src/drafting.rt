@@ -3,6 +3,7 @@ ghost use Rattle.std.specs.Prelude.{◌≡◌, ◌≤◌, ◌≤ℤ◌, pos, [],
 ghost use Rattle.minute_line.specs.Histories.{fields_of};
 ghost use Rattle.week_book.specs.Pasts.{HasPastRows};
 ghost use Rattle.week_book.specs.Weeks.{IsWeek};
+ghost use Rattle.desk_csv.specs.declared.reading.TheConstants.{TEXT_LIMIT};
 ghost use Rattle.desk_keeper.specs.Tables.{kept_fields};
 ghost use Rattle.desk_keeper.specs.Entries.{history_in, revision_in};
 ghost use Rattle.desk_core.specs.Refusing.{Meets};
@@ -49,7 +50,7 @@ fn pasts_of(
 
 /// What a week text says.
 pub(crate) fn read_week_text(alloc: Global, text: &Bytes) -> Result<WeekText, Stop>
-    requires { length text.now ≤ 1048576 }
+    requires { length text.now ≤ TEXT_LIMIT }
     ensures read { Meets week_text result (text_said text.now) }
     ensures week { IfOk result (λ read. IsWeek read.week) }
     ensures monday { IfOk result (λ read. read.week.monday.day ≤ℤ pos 47478) }

@@ -20,7 +20,7 @@ pub use laws::{
     each_has_its_history, first_refused_is_told, first_without_is_named, histories_stand,
     issues_stand, lines_are_verdicts, published_once, replies_are_its_steps, what_may_be_is_done,
 };
-pub use lines::refusal_line;
+pub use lines::{KEEPER_FAULT, refusal_line};
 pub use planning::{Solved, read_case, solve_text};
 pub use refusals::{Refusal, Stop};
 pub use stepping::step;

@@ -12,6 +12,9 @@ use minute_line::{Bytes, Memory, Monday, monday_text, push_number, push_word};
 use std::alloc::Global;
 use week_book::{WeekError, What};
 
+/// The line for a keeper that failed.
+pub const KEEPER_FAULT: &[u8] = b"refused keeper\n";
+
 fn push_one(text: &mut Bytes, word: &[u8], number: u64) -> Result<(), Memory>
     ensures { OnOk result (text.new ≡ with_words text.old (word.now ∷ decimal number ∷ [])) }
 {

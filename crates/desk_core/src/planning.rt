@@ -2,6 +2,7 @@
 ghost use Rattle.std.specs.Prelude.{◌≡◌, ◌≤◌, length, map, option_map, IfOk, OnOk};
 ghost use Rattle.minute_line.specs.Histories.{fields_of};
 ghost use Rattle.week_book.specs.Pasts.{HasPastRows};
+ghost use Rattle.desk_csv.specs.declared.reading.TheConstants.{TEXT_LIMIT};
 ghost use Rattle.duty_plan.specs.Duties.{IsCase};
 ghost use Rattle.duty_plan.specs.Trees.{IsLimits, IsRight};
 ghost use Rattle.desk_core.specs.Refusing.{Meets};
@@ -99,7 +100,7 @@ fn histories_in(alloc: Global, rows: &Many<Row>, drivers: &[Driver]) -> Result<M
 
 /// The week of a week text, with a history for each of its drivers, in their order.
 pub fn read_case(alloc: Global, text: &Bytes) -> Result<Case, Stop>
-    requires { length text.now ≤ 1048576 }
+    requires { length text.now ≤ TEXT_LIMIT }
     ensures case { Meets book result (case_said text.now) }
     ensures valid { IfOk result IsCase }
     ensures cause { RefusedFor HasCause result }
@@ -126,7 +127,7 @@ pub fn solve_text<R: Threads + Sync, P: Planner>(
     limits: &Limits,
     planner: &mut P,
 ) -> Result<Solved, Stop>
-    requires text { length text.now ≤ 1048576 }
+    requires text { length text.now ≤ TEXT_LIMIT }
     requires limits { IsLimits limits.now }
     ensures case { Meets (λ solved. book solved.case) result (case_said text.now) }
     ensures valid { IfOk result (λ solved. IsCase solved.case) }

@@ -1,5 +1,6 @@
 // One command, one step of the machine.
 ghost use Rattle.std.specs.Prelude.{◌≡◌, ◌≤◌, length, IfOk, IfSome};
+ghost use Rattle.desk_csv.specs.declared.reading.TheConstants.{TEXT_LIMIT};
 ghost use Rattle.desk_keeper.specs.Records.{draft_fields};
 ghost use Rattle.desk_keeper.specs.Changes.{IsNext};
 ghost use Rattle.duty_plan.specs.Trees.{IsLimits};
@@ -44,7 +45,7 @@ fn plan<R: Threads + Sync, B: Keeper, P: Planner>(
     text: &Bytes,
     limits: &Limits,
 ) -> Result<Bytes, Stop>
-    requires text { length text.now ≤ 1048576 }
+    requires text { length text.now ≤ TEXT_LIMIT }
     requires limits { IsLimits limits.now }
     ensures step { IsOutcome (Drafts limits.now text.now) (B.tables keeper.old) result (B.tables keeper.new) }
     ensures planned { IfOk result (IsPlannedWeek limits.now text.now) }

@@ -12,6 +12,7 @@ use Rattle.minute_line.specs.declared.dates.Monday.{Monday}
 use Rattle.desk_csv.specs.declared.errors.CsvError.{CsvError}
 use Rattle.desk_csv.specs.declared.errors.CsvError.TheVariants.{Memory}
 use Rattle.desk_csv.specs.DateTests.{is_day_text, is_stamp_text, monday_of, where_true}
+use Rattle.desk_csv.specs.Fields.{monday_said}
 use Rattle.desk_csv.proofs.DateLemmas.{stamp_test, stamp_fact, day_fact, day_test}
 
 true_of : (b : Bool) → T b → b ≡ true
@@ -58,19 +59,19 @@ monday_day day m h =
     sym (ap (λ (x : Monday). x.day) (some_same _ m zero.1))
 
 -- a text that is no Monday gives none
-no_monday : (t : List ℕ) (e : CsvError) (is : Bool) (o : Option Monday) → is_day_text t ≡ is → monday_of (text_day t) ≡ o → ¬ (IsMondayText t)
-    → (if is then ok_or o e else Err e) ≡ Err e
-no_monday t e false o same given none = refl
-no_monday t e true None same given none = refl
-no_monday t e true (Some m) same given none =
+no_monday : (t : List ℕ) (is : Bool) (o : Option Monday) → is_day_text t ≡ is → monday_of (text_day t) ≡ o → ¬ (IsMondayText t)
+    → (if is then o else None) ≡ None
+no_monday t false o same given none = refl
+no_monday t true None same given none = refl
+no_monday t true (Some m) same given none =
     let day = day_fact t same in
     absurd (none (day.0, day.1, rw (monday_day (text_day t) m given) at m.is_monday))
 
--- the Monday of a field
-pub monday_in_field : (t : List ℕ) (e : CsvError) (o : Option Monday) → IsSome o ↔ IsMondayText t → IfSome o (λ m. m.day ≡ text_day t)
-    → Gives Memory (λ m. m) (ok_or o e) (if is_day_text t then ok_or (monday_of (text_day t)) e else Err e)
-monday_in_field t e (Some m) some is = rw (day_test t (some.0 refl), ← is, monday_again m) refl
-monday_in_field t e None some is = λ memory. no_monday t e _ _ refl refl (λ h. false≢true (some.1 h))
+-- the Monday of a text is the one that its test gives
+pub monday_of_text : (t : List ℕ) (o : Option Monday) → IsSome o ↔ IsMondayText t → IfSome o (λ m. m.day ≡ text_day t) → o ≡ monday_said t
+unfolding monday_said
+monday_of_text t (Some m) some is = rw (day_test t (some.0 refl), ← is, monday_again m) refl
+monday_of_text t None some is = sym (no_monday t _ _ refl refl (λ h. false≢true (some.1 h)))
 
 -- the stamp of a field
 pub stamp_in_field : (day : ℤ) (t : List ℕ) (e : CsvError) (o : Option ℤ) → IsSome o ↔ IsStampText t → IfSome o (λ x. x ≡ stamp_minutes day t)

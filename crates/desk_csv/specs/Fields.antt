@@ -60,11 +60,13 @@ word_at row n fields =
     else if bytes_eq (field n fields) (codes "WEEKLY") then Ok word.Weekly
     else Err (fault.Word row)
 
+-- the Monday of a text
+unfoldable pub monday_said : List ℕ → Option Monday
+monday_said text = if is_day_text text then monday_of (text_day text) else None
+
 -- the Monday in a field
 unfoldable pub monday_at : ℕ → ℕ → Record → Result Monday CsvError
-monday_at row n fields =
-    if is_day_text (field n fields) then ok_or (monday_of (text_day (field n fields))) (fault.Stamp row n)
-    else Err (fault.Stamp row n)
+monday_at row n fields = ok_or (monday_said (field n fields)) (fault.Stamp row n)
 
 -- the stamp in a field, in minutes from the day with this number
 unfoldable pub stamp_at : ℤ → ℕ → ℕ → Record → Result ℤ CsvError

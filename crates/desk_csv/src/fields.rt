@@ -3,7 +3,7 @@ ghost use Rattle.std.specs.Prelude.{◌≡◌, ◌+◌, ◌≤◌, ◌<◌, ◌^
 ghost use Rattle.csv.specs.Records.{fields_of};
 ghost use Rattle.minute_line.specs.Answers.{Gives};
 ghost use Rattle.desk_csv.specs.declared.errors.CsvError.TheVariants.{Memory as WantOfMemory};
-ghost use Rattle.desk_csv.specs.Fields.{field, counted, digits_from, digits_number, number_at, numbers_at, word_at, monday_at, stamp_at};
+ghost use Rattle.desk_csv.specs.Fields.{field, counted, digits_from, digits_number, number_at, numbers_at, word_at, monday_said, monday_at, stamp_at};
 
 use crate::errors::CsvError;
 use csv::ByteRecord;
@@ -36,9 +36,9 @@ pub(crate) fn count(row: u32, wanted: usize, fields: &ByteRecord) -> Result<usiz
     }
 }
 
-/// The number that ASCII digits make.
+/// The number that at most ten ASCII digits make, which is 0 where there are none.
 #[inline]
-fn digits(text: &[u8]) -> Option<u64>
+pub fn read_digits(text: &[u8]) -> Option<u64>
     requires { length text.now ≤ 10 }
     ensures { result ≡ digits_from 0 text.now }
 {
@@ -55,13 +55,13 @@ fn digits(text: &[u8]) -> Option<u64>
 /// The number that 1 to 10 ASCII digits make.
 #[tactic(auto, unfolding(crate::specs::Fields::digits_number))]
 #[inline]
-fn read_number(text: &[u8]) -> Option<u64>
+pub fn read_number(text: &[u8]) -> Option<u64>
     ensures { result ≡ digits_number text.now }
 {
     if text.is_empty() || text.len() > 10 {
         return None;
     }
-    digits(text)
+    read_digits(text)
 }
 
 /// The number in a field.
@@ -111,6 +111,14 @@ pub(crate) fn word(row: u32, n: u32, fields: &ByteRecord) -> Result<Word, CsvErr
     }
 }
 
+/// The Monday of a text: YYYY-MM-DD, of the years 2000 to 2099.
+#[inline]
+pub fn read_monday(text: &[u8]) -> Option<Monday>
+    ensures { result ≡ monday_said text.now }
+{
+    monday_in(text)
+}
+
 /// The Monday in a field.
 #[tactic(auto, unfolding(crate::specs::Fields::monday_at))]
 #[inline]
@@ -118,7 +126,7 @@ pub(crate) fn monday(row: u32, n: u32, fields: &ByteRecord) -> Result<Monday, Cs
     requires { 1 ≤ n }
     ensures { Gives WantOfMemory (λ m. m) result (monday_at row n (fields_of fields.now)) }
 {
-    monday_in(field(fields, n)).ok_or(CsvError::Stamp(row, n))
+    read_monday(field(fields, n)).ok_or(CsvError::Stamp(row, n))
 }
 
 /// The stamp in a field, in minutes from the Monday.

@@ -8,7 +8,8 @@ mod reading;
 mod rows;
 
 pub use errors::{CsvError, Form};
-pub use reading::read_rows;
+pub use fields::{read_digits, read_monday, read_number};
+pub use reading::{TEXT_LIMIT, read_rows};
 
 #[cfg(test)]
 mod tests;

@@ -16,6 +16,9 @@ use std::alloc::Global;
 use std::str;
 use week_book::Row;
 
+/// The most bytes of a text.
+pub const TEXT_LIMIT: usize = 1_048_576;
+
 /// The Monday that stamps count from: the one that was found, or that of this record, which is the first.
 #[tactic(auto, unfolding(crate::specs::Reading::first_monday))]
 fn counted_from(first: Option<Monday>, fields: &ByteRecord) -> Result<Monday, CsvError>
@@ -57,7 +60,7 @@ fn next_record(reader: &mut Reader<&[u8]>, fields: &mut ByteRecord) -> Result<bo
 
 /// The rows of a text's records.
 fn read_records(alloc: Global, text: &[u8], form: Form) -> Result<Many<Row>, CsvError>
-    requires { length text.now ≤ 1048576 }
+    requires { length text.now ≤ TEXT_LIMIT }
     ensures rows { Gives WantOfMemory (λ rows. rows) result (rows_in form (records_of text.now)) }
     ensures few { IfOk result (λ rows. length rows ≤ 1048576) }
 {
@@ -84,7 +87,7 @@ fn read_records(alloc: Global, text: &[u8], form: Form) -> Result<Many<Row>, Csv
 /// first, then the first faulty row decides. In a row its word is tried, then its mark word, then the number of its
 /// fields, then the fields from the left. Its time and its memory grow with the text's length.
 pub fn read_rows(alloc: Global, text: &Bytes, form: Form) -> Result<Many<Row>, CsvError>
-    requires { length text.now ≤ 1048576 }
+    requires { length text.now ≤ TEXT_LIMIT }
     ensures rows { Gives WantOfMemory (λ rows. rows) result (rows_of form text.now) }
     ensures few { IfOk result (λ rows. length rows ≤ 1048576) }
     ensures words { IfOk result (λ rows. are_rows form rows ≡ true) }

@@ -1,8 +1,6 @@
 pub mod Firsts
 pub mod Stays
 pub mod Written
-pub mod SmallPowers
-pub mod SaidMondays
 pub mod Named
 pub mod Asked
 pub mod Answered

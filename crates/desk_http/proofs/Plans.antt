@@ -19,7 +19,8 @@ use Rattle.desk_http.specs.declared.serving.Served.{Served}
 use Rattle.desk_http.specs.declared.serving.Served.TheVariants.{Status, ReadFault, WriteFault}
 use Rattle.desk_http.specs.Answers.{code_of, head_text, HasBody}
 use Rattle.desk_http.specs.Answering.{undrafted_kind, refused_kind, IsReplied, IsAnswered, IsAnswerTo, PlansWeek, Answers}
-use Rattle.desk_http.specs.Requests.{asked_by, Asks, usual_limits}
+use Rattle.desk_words.specs.Asks.{usual_limits}
+use Rattle.desk_http.specs.Requests.{asked_by, Asks}
 use Rattle.desk_http.specs.Serving.{Serves, TellsPlan, bytes_of, status_of}
 use Rattle.desk_http.proofs.Stays.{same_asks}
 

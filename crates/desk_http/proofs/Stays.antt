@@ -8,7 +8,7 @@ use Rattle.httparse.proofs.GrammarLemmas.{request_unique, ReadsRequest-append}
 use Rattle.desk_io.specs.Device.{GivesBytes, NothingLeft}
 use Rattle.desk_http.specs.declared.early.Early.{Early}
 use Rattle.desk_http.specs.declared.requests.Opening.{Opening}
-use Rattle.desk_http.specs.Heads.{HasHead, HasNoHead, IsHeadSettled}
+use Rattle.desk_http.specs.Heads.{HasHead, IsHeadSettled}
 use Rattle.desk_http.specs.Requests.{opening_of, body_of, command_of, asked_in, asked_by, ◌>>=◌, Asks}
 use Rattle.desk_http.specs.Serving.{AsksAs, IsEnough, StandsFor}
 
@@ -19,14 +19,6 @@ head_more request more head rest has =
 pub same_asks : (all request : List ℕ) → all ≡ request → AsksAs all request
 same_asks all request same asked asks = subst (λ (r : List ℕ). Asks r asked) (sym same) asks
 
-headless : (request more : List ℕ) → IsHeadSettled request → HasNoHead request → HasNoHead (request ++ more)
-headless request more settled none head rest has =
-    let there = settled more head rest has in none head there.0 there.1
-
-asks_headless : (all request : List ℕ) → HasNoHead request → HasNoHead all → AsksAs all request
-asks_headless all request none never asked (inl (head, rest, has, is)) = absurd (none head rest has)
-asks_headless all request none never asked (inr (nowhere, is)) = inr (never, is)
-
 asks_headed : (request more : List ℕ) (head : RequestHead) (rest : List ℕ) → HasHead request head rest → asked_by head (rest ++ more) ≡ asked_by head rest
     → AsksAs (request ++ more) request
 asks_headed request more head rest has stays asked (inl (other, left, also, is)) =
@@ -34,12 +26,6 @@ asks_headed request more head rest has stays asked (inl (other, left, also, is))
     let here : asked ≡ asked_by head rest = is ∙ (ap (λ (h : RequestHead). asked_by h left) (sym same.0) ∙ ap (asked_by head) (sym same.1)) in
     inl (head, rest ++ more, head_more request more head rest has, here ∙ sym stays)
 asks_headed request more head rest has stays asked (inr (nowhere, is)) = absurd (nowhere head rest has)
-
--- without a head nothing more is asked for
-pub enough_headless : (request : List ℕ) (n : ℕ) → HasNoHead request → IsHeadSettled request → IsEnough request n
-enough_headless request n none settled more later long =
-    let all : HasNoHead ((request ++ more) ++ later) = subst HasNoHead (sym (append_assoc request more later)) (headless request (more ++ later) settled none) in
-    asks_headless ((request ++ more) ++ later) (request ++ more) (headless request more settled none) all
 
 early_stays : (opened : Result Opening Early) (early : Early) (one two : List ℕ) → opened ≡ Err early
     → (opened >>= λ opening. asked_in opening one) ≡ (opened >>= λ opening. asked_in opening two)

@@ -1,6 +1,5 @@
 -- Bytes that are written one after another.
 use Rattle.std.proofs.Common.{◌≡◌, sym, ℕ, ◌+◌, ◌<◌, List, ◌++◌, length, take, arith, length-append, Option, Result, Ok, Err, OnOk, OnErr, refl}
-use Rattle.std.proofs.lemmas.List.{take-append-le}
 use Rattle.std.proofs.Math.Seq.{take-append-add}
 use Rattle.desk_io.specs.Device.{Takes}
 use Rattle.desk_io.specs.Whole.{failed_by_last}
@@ -21,12 +20,6 @@ tells (Err e) bytes status before after ok err = err
 pub counts : {A E : Type 0} (written : Result A E) (status faults after : ℕ) → after ≡ failed_by_last faults written → after ≡ writes_failed faults (outcome_said written status)
 counts (Ok x) status faults after is = is
 counts (Err e) status faults after is = is
-
--- a beginning of the first bytes is one of both
-pub first_cut : (before after : Option (List ℕ)) (head body : List ℕ) → ((n : ℕ) × (n < length head) × Takes before (take n head) after)
-    → (n : ℕ) × (n < length (head ++ body)) × Takes before (take n (head ++ body)) after
-first_cut before after head body (n, short, took) =
-    (n, omega (arith, length-append head body), rw (take-append-le n head body (omega arith)) took)
 
 -- the first bytes and a beginning of the second are a beginning of both
 pub second_cut : (before middle after : Option (List ℕ)) (head body : List ℕ) → Takes before head middle

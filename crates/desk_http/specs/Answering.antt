@@ -1,9 +1,9 @@
 -- The answer to a request, and what is kept after it.
-use Rattle.std.specs.Prelude.{◌≡◌, ⊤, ℕ, ◌==◌, if◌then◌else◌, List, codes, Option, Result, Ok, Err}
+use Rattle.std.specs.Prelude.{◌≡◌, ⊤, ℕ, ◌==◌, if◌then◌else◌, List, Option, Result, Ok, Err}
 use Rattle.minute_line.specs.declared.many.Memory.{Memory}
 use Rattle.desk_io.specs.Device.{counted_up}
 use Rattle.desk_keeper.specs.Tables.{Tables}
-use Rattle.desk_core.specs.Lines.{IsRefusalText}
+use Rattle.desk_core.specs.Lines.{IsRefusalText, keeper_fault_line}
 use Rattle.desk_core.specs.Answering.{IsAnswer, IsPlannedWeek}
 use Rattle.desk_core.specs.Machine.{IsReply}
 use Rattle.desk_core.specs.declared.commands.Command.{Command}
@@ -17,7 +17,8 @@ use Rattle.desk_http.specs.declared.answers.Kind.{Kind}
 use Rattle.desk_http.specs.declared.answers.Kind.TheVariants.{Done, Bad, Lost, Conflict, Fault}
 use Rattle.desk_http.specs.declared.early.Early.{Early}
 use Rattle.desk_http.specs.Answers.{kind_of, early_line, HasBody}
-use Rattle.desk_http.specs.Requests.{Asks, usual_limits}
+use Rattle.desk_words.specs.Asks.{usual_limits}
+use Rattle.desk_http.specs.Requests.{Asks}
 
 -- the kind of an answer to a command that found no draft: what is looked for is not there, or what is to change is not
 abbrev pub undrafted_kind : Command → Kind
@@ -35,15 +36,11 @@ refused_kind command (Line name error) = Bad
 refused_kind command (NoDraft monday) = undrafted_kind command
 refused_kind command refusal = Conflict
 
--- the line for a keeper that failed
-abbrev pub fault_line : List ℕ
-fault_line = codes "refused keeper\n"
-
 -- the answer to a command by the desk's reply
 abbrev pub IsReplied : Command → Reply → Answer → Type 0
 IsReplied command (reply.Done text) answer = HasBody Done text answer
 IsReplied command (reply.Refused refusal) answer = (text : List ℕ) × IsRefusalText refusal text × HasBody (refused_kind command refusal) text answer
-IsReplied command reply.KeeperFault answer = HasBody Fault fault_line answer
+IsReplied command reply.KeeperFault answer = HasBody Fault keeper_fault_line answer
 IsReplied command reply.Memory answer = ⊥
 
 -- a reply in whose place want of memory may be told: it changed nothing

@@ -7,10 +7,10 @@ use Rattle.serde_json.specs.Data.{Data}
 use Rattle.serde_json.specs.Find.{get, as_number, as_u64, as_str}
 use Rattle.serde_json.specs.Read.{read}
 use Rattle.minute_line.specs.declared.dates.Monday.{Monday}
-use Rattle.desk_csv.specs.Fields.{digits_number}
+use Rattle.desk_csv.specs.declared.reading.TheConstants.{TEXT_LIMIT}
+use Rattle.desk_csv.specs.Fields.{digits_number, monday_said}
 use Rattle.desk_http.specs.declared.early.Early.{Early}
 use Rattle.desk_http.specs.declared.early.Early.TheVariants.{Bad, Long}
-use Rattle.desk_http.specs.Routes.{monday_said}
 
 -- a header: its name, and its value without the spaces and tabs around it
 abbrev pub Header : Type 0
@@ -35,9 +35,9 @@ lone (value ∷ other ∷ values) = None
 abbrev pub lone_value : List ℕ → List Header → Option (List ℕ)
 lone_value name headers = lone (values_of name headers)
 
--- a length of at most 1,048,576 bytes
+-- a length of at most so many bytes as a text may have: 1,048,576
 abbrev pub length_within : ℕ → Result ℕ Early
-length_within n = if nat_le n 1048576 then Ok n else Err Long
+length_within n = if nat_le n TEXT_LIMIT then Ok n else Err Long
 
 -- the length that a value says: 1 to 10 digits
 abbrev pub length_read : Option ℕ → Result ℕ Early

@@ -4,9 +4,9 @@ use Rattle.std.specs.Str.{bytes_eq}
 use Rattle.httparse.specs.Grammar.{RequestHead}
 use Rattle.httparse.specs.Spans.{name_and_value}
 use Rattle.minute_line.specs.declared.dates.Monday.{Monday}
-use Rattle.duty_plan.specs.declared.outcomes.Limits.{Limits}
 use Rattle.desk_core.specs.declared.commands.Command.{Command}
 use Rattle.desk_core.specs.declared.commands.Command.TheVariants as ask
+use Rattle.desk_words.specs.Asks.{usual_limits}
 use Rattle.desk_http.specs.declared.early.Verb.{Verb}
 use Rattle.desk_http.specs.declared.early.Verb.TheVariants.{Get, Post}
 use Rattle.desk_http.specs.declared.early.Early.{Early}
@@ -31,10 +31,6 @@ infixl 10 ◌>>=◌
 abbrev pub ◌>>=◌ : {A B : Type 0} → Result A Early → (A → Result B Early) → Result B Early
 (Ok x) >>= next = next x
 (Err early) >>= next = Err early
-
--- what a plan may spend whose limits are not named
-abbrev pub usual_limits : Limits
-usual_limits = record { labels = 65536; nodes = 31; rounds = 8 }
 
 -- the name of a method
 abbrev pub method_of : Verb → List ℕ

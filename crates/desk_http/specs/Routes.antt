@@ -1,5 +1,5 @@
 -- What the target of a request names, by the routes of `matchit`.
-use Rattle.std.specs.Prelude.{ℕ, ◌-◌, ◌==◌, if◌then◌else◌, List, [], length, take, drop, codes, Option, Some, None, option_map, option_and_then, Result, Ok, Err}
+use Rattle.std.specs.Prelude.{ℕ, ◌-◌, ◌==◌, List, [], length, take, drop, codes, Option, Some, None, option_map, option_and_then, Result, Ok, Err}
 use Rattle.std.specs.List.{before_first}
 use Rattle.matchit.specs.Rows.{RowsOf}
 use Rattle.matchit.specs.Order.{placed}
@@ -7,9 +7,8 @@ use Rattle.matchit.specs.Route.{Scan, parse_route}
 use Rattle.matchit.specs.Router.{RouteOf, route_from}
 use Rattle.matchit.specs.Seek.{first}
 use Rattle.matchit.specs.declared.error.InsertError.{InsertError}
-use Rattle.minute_line.specs.DateText.{text_day}
 use Rattle.minute_line.specs.declared.dates.Monday.{Monday}
-use Rattle.desk_csv.specs.DateTests.{is_day_text, monday_of}
+use Rattle.desk_csv.specs.Fields.{monday_said}
 use Rattle.desk_http.specs.declared.early.Verb.{Verb}
 use Rattle.desk_http.specs.declared.early.Verb.TheVariants.{Get, Post}
 use Rattle.desk_http.specs.declared.routes.Place.{Place}
@@ -43,10 +42,6 @@ place_of path = option_map (λ route. route.value) (first routes path)
 -- the path of a target: what stands before its first question mark
 abbrev pub path_of : List ℕ → List ℕ
 path_of target = before_first (λ b. b == 63) target
-
--- the Monday of a text
-abbrev pub monday_said : List ℕ → Option Monday
-monday_said text = if is_day_text text then monday_of (text_day text) else None
 
 -- what stands after /weeks/
 abbrev pub after_weeks : List ℕ → List ℕ

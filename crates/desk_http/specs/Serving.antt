@@ -15,7 +15,8 @@ use Rattle.desk_http.specs.declared.waiting.ReadStop.{ReadStop}
 use Rattle.desk_http.specs.declared.waiting.ReadStop.TheVariants as stop
 use Rattle.desk_http.specs.Answering.{Answers, faults_with}
 use Rattle.desk_http.specs.Answers.{head_text}
-use Rattle.desk_http.specs.Requests.{Asks, usual_limits}
+use Rattle.desk_words.specs.Asks.{usual_limits}
+use Rattle.desk_http.specs.Requests.{Asks}
 
 -- a read came to the end of its source, or it gave some bytes
 abbrev pub MayEnd : Bool → List ℕ → Option (List ℕ) → Type 0

@@ -4,9 +4,9 @@ ghost use Rattle.desk_http.specs.Answering.{Answers, PlansWeek, faults_after};
 
 use crate::answers::{Answer, head_room};
 use crate::early::Halt;
-use crate::replies::{FAULT_LINE, early_answer, reply_answer};
+use crate::replies::{early_answer, reply_answer};
 use crate::requests::asked;
-use desk_core::step;
+use desk_core::{KEEPER_FAULT, step};
 use desk_keeper::Keeper;
 use duty_plan::{Gate, Planner};
 use minute_line::{Bytes, Memory};
@@ -29,7 +29,7 @@ pub fn answer<R: Threads + Sync, B: Keeper, P: Planner>(
     ensures counted { B.faults keeper.old ≤ B.faults keeper.new }
 {
     let room = head_room(alloc)?;
-    let fault = Bytes::from_slice(alloc, FAULT_LINE)?;
+    let fault = Bytes::from_slice(alloc, KEEPER_FAULT)?;
     match asked(alloc, request.as_slice()) {
         Ok(command) => {
             let reply = step(rt, gate, alloc, keeper, planner, &command);

@@ -1,23 +1,17 @@
 // The body of a request: how long its headers say that it is, and what a publication's says.
-ghost use Rattle.std.specs.Prelude.{◌≡◌, ◌∷◌, [], ◌≤◌, ◌<◌, ◌↔◌, IsTrue, IfOk, IfSome, MatchOption, map, length, option_map};
-ghost use Rattle.desk_csv.specs.Fields.{digits_from, digits_number};
+ghost use Rattle.std.specs.Prelude.{◌≡◌, ◌∷◌, [], ◌≤◌, ◌<◌, ◌↔◌, IsTrue, IfOk, IfSome, MatchOption, map, option_map};
+ghost use Rattle.desk_csv.specs.declared.reading.TheConstants.{TEXT_LIMIT};
 ghost use Rattle.httparse.specs.Borrowed.{header_parts};
 ghost use Rattle.desk_http.specs.Bodies.{is_named, values_of, lone_value, length_said, value_of, revision_of, monday_in, publication_of, publication_in};
 ghost use Rattle.serde_json.specs.View.{view};
 
 use crate::early::Early;
-use crate::routes::monday_of;
+use desk_csv::{TEXT_LIMIT, read_monday, read_number};
 use httparse::Header;
 use minute_line::{Memory, Monday};
 use serde_json::Value;
 use std::alloc::Global;
 use std::str;
-
-/// The most bytes of a body.
-const BODY_LIMIT: u64 = 1_048_576;
-
-/// The most digits of a length.
-const DIGIT_LIMIT: usize = 10;
 
 /// The value of the first header of that name, and the headers after it. Names are the same where they differ in the case of
 /// ASCII letters alone.
@@ -50,36 +44,10 @@ fn lone_value<'b>(headers: &[Header<'b>], name: &str) -> Option<&'b [u8]>
     }
 }
 
-/// The number that at most ten ASCII digits make.
-fn digits(text: &[u8]) -> Option<u64>
-    requires { length text.now ≤ 10 }
-    ensures { result ≡ digits_from 0 text.now }
-{
-    let mut number = 0;
-    for byte in text {
-        if *byte < b'0' || *byte > b'9' {
-            return None;
-        }
-        number = 10 * number + (*byte - b'0') as u64;
-    }
-    Some(number)
-}
-
-/// The number of a text of 1 to 10 ASCII digits.
-#[tactic(auto, unfolding(desk_csv::specs::Fields::digits_number))]
-fn number_of(text: &[u8]) -> Option<u64>
-    ensures { result ≡ digits_number text.now }
-{
-    if text.is_empty() || text.len() > DIGIT_LIMIT {
-        return None;
-    }
-    digits(text)
-}
-
 /// The length that the headers say of the body.
 pub(crate) fn length_in(headers: &[Header<'_>]) -> Result<usize, Early>
     ensures length { result ≡ length_said (map header_parts headers.now) }
-    ensures limit { IfOk result (λ length. length ≤ 1048576) }
+    ensures limit { IfOk result (λ length. length ≤ TEXT_LIMIT) }
 {
     if first_value(headers, "transfer-encoding").is_some() {
         return Err(Early::Bad);
@@ -87,8 +55,8 @@ pub(crate) fn length_in(headers: &[Header<'_>]) -> Result<usize, Early>
     let Some(value) = lone_value(headers, "content-length") else {
         return Err(Early::Bad);
     };
-    match number_of(value) {
-        Some(length) if length <= BODY_LIMIT => Ok(length as usize),
+    match read_number(value) {
+        Some(length) if length <= TEXT_LIMIT as u64 => Ok(length as usize),
         Some(_) => Err(Early::Long),
         None => Err(Early::Bad),
     }
@@ -128,7 +96,7 @@ fn week_of(value: &Value) -> Option<Monday>
     ensures { result ≡ monday_in (view value.now) }
 {
     let text = value.get("monday").and_then(Value::as_str)?;
-    monday_of(text.as_bytes())
+    read_monday(text.as_bytes())
 }
 
 /// The week and the revision of a value: its members `monday` and `revision`.

@@ -1,7 +1,8 @@
 // What is answered to a request by the desk's reply, or before its command.
 ghost use Rattle.std.specs.Prelude.{◌≡◌, ◌≤◌, [], vec_capacity, IfOk, OnErr};
+ghost use Rattle.desk_core.specs.Lines.{keeper_fault_line};
 ghost use Rattle.desk_http.specs.Answers.{kind_of, early_line, HasBody};
-ghost use Rattle.desk_http.specs.Answering.{fault_line, refused_kind, IsReplied, IsUnsaid};
+ghost use Rattle.desk_http.specs.Answering.{refused_kind, IsReplied, IsUnsaid};
 
 use crate::answers::{Answer, Kind, answer_with};
 use crate::early::Early;
@@ -55,9 +56,6 @@ fn refused_kind(command: &Command, refusal: &Refusal) -> Kind
     }
 }
 
-/// The line for a keeper that failed.
-pub(crate) const FAULT_LINE: &[u8] = b"refused keeper\n";
-
 /// The answer to a command by the desk's reply. A reply that changed the tables, or a fault of the keeper, takes no memory.
 pub(crate) fn reply_answer(
     alloc: Global,
@@ -68,7 +66,7 @@ pub(crate) fn reply_answer(
 ) -> Result<Answer, Memory>
     requires empty { room.items ≡ [] }
     requires room { 256 ≤ vec_capacity room }
-    requires fault { fault ≡ fault_line }
+    requires fault { fault ≡ keeper_fault_line }
     ensures ok { IfOk result (IsReplied command.now reply) }
     ensures err { OnErr result (IsUnsaid reply) }
 {

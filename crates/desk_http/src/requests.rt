@@ -1,29 +1,23 @@
 // What a request asks the desk for, or why it is answered before its command.
 ghost use Rattle.std.specs.Prelude.{◌≡◌, ◌≤◌, IfOk, MatchResult, Result, Ok, Err, map, length};
+ghost use Rattle.desk_csv.specs.declared.reading.TheConstants.{TEXT_LIMIT};
 ghost use Rattle.httparse.specs.Borrowed.{header_parts};
 ghost use Rattle.desk_core.specs.Machine.{IsCommand};
 ghost use Rattle.httparse.specs.Grammar.{RequestHead};
 ghost use Rattle.desk_core.specs.declared.commands.Command.{Command as Asked};
 ghost use Rattle.desk_http.specs.declared.early.Early.{Early as Answered};
 ghost use Rattle.desk_http.specs.Heads.{IsPartsOf};
-ghost use Rattle.desk_http.specs.Requests.{Says, body_length, opening_of, command_of, body_of, asked_in, asked_of, asked_by, Asks, usual_limits};
+ghost use Rattle.desk_http.specs.Requests.{Says, body_length, opening_of, command_of, body_of, asked_in, asked_of, asked_by, Asks};
 
 use crate::bodies::{length_in, publication_in};
 use crate::early::{Early, Halt, Verb};
 use crate::heads::{HEADER_ROOM, Head, read_head};
 use crate::routes::{Target, target_of};
 use desk_core::Command;
-use duty_plan::Limits;
+use desk_words::USUAL_LIMITS;
 use httparse::{EMPTY_HEADER, Header};
 use minute_line::Bytes;
 use std::alloc::Global;
-
-/// What a plan may spend whose limits are not named.
-const USUAL_LIMITS: Limits = Limits {
-    labels: 65_536,
-    nodes: 31,
-    rounds: 8,
-};
 
 /// What the head of a request names, and how long its body is.
 #[derive(Clone, Copy, Debug)]
@@ -36,7 +30,7 @@ pub(crate) struct Opening {
 /// The length of a request's body. No body is read of a request to get something.
 fn body_length(verb: Verb, headers: &[Header<'_>]) -> Result<usize, Early>
     ensures length { result ≡ body_length verb (map header_parts headers.now) }
-    ensures limit { IfOk result (λ length. length ≤ 1048576) }
+    ensures limit { IfOk result (λ length. length ≤ TEXT_LIMIT) }
 {
     match verb {
         Verb::Get => Ok(0),
@@ -48,7 +42,7 @@ fn body_length(verb: Verb, headers: &[Header<'_>]) -> Result<usize, Early>
 pub(crate) fn opening_of(alloc: Global, head: &Head<'_, '_>) -> Result<Opening, Halt>
     ensures opening { Says (λ opening. opening) result
         (opening_of head.now.method.now head.now.target.now (map header_parts head.now.headers.now)) }
-    ensures limit { IfOk result (λ opening. opening.length ≤ 1048576) }
+    ensures limit { IfOk result (λ opening. opening.length ≤ TEXT_LIMIT) }
 {
     let Some(target) = target_of(alloc, head.target)? else {
         return Err(Halt::Early(Early::Lost));
@@ -74,7 +68,7 @@ fn body_of(rest: &[u8], n: usize) -> Result<&[u8], Early>
 
 /// The command of a target, with its body.
 fn command_of(alloc: Global, target: Target, body: &[u8]) -> Result<Command, Halt>
-    requires { length body.now ≤ 1048576 }
+    requires { length body.now ≤ TEXT_LIMIT }
     ensures command { Says (λ command. command) result (command_of target body.now) }
     ensures may { IfOk result IsCommand }
 {

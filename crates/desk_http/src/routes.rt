@@ -2,12 +2,13 @@
 ghost use Rattle.std.specs.Prelude.{◌≡◌, ◌==◌, ◌-◌, IfOk, OnOk, length, take, option_map};
 ghost use Rattle.std.specs.List.{before_first};
 ghost use Rattle.matchit.specs.Seek.{first};
-ghost use Rattle.desk_http.specs.Routes.{with_route, routes, place_of, path_of, target_at, target_of, verb_of, monday_said};
+ghost use Rattle.desk_http.specs.Routes.{with_route, routes, place_of, path_of, target_at, target_of, verb_of};
 
 use crate::early::Verb;
 use crate::heads::after;
+use desk_csv::read_monday;
 use matchit::Router;
-use minute_line::{Memory, Monday, monday_in};
+use minute_line::{Memory, Monday};
 use std::alloc::Global;
 
 /// What a route leads to.
@@ -86,13 +87,6 @@ fn path_of(target: &str) -> &str
     }
 }
 
-/// The Monday of a text.
-pub(crate) fn monday_of(text: &[u8]) -> Option<Monday>
-    ensures { result ≡ monday_said text.now }
-{
-    monday_in(text)
-}
-
 /// The bytes before `/export`.
 fn before_export(path: &[u8]) -> &[u8]
     ensures { result.now ≡ take (length path.now - 7) path.now }
@@ -108,8 +102,8 @@ fn target_at(place: Place, path: &[u8]) -> Option<Target>
         Place::Plan => Some(Target::Plan),
         Place::Check => Some(Target::Check),
         Place::Publish => Some(Target::Publish),
-        Place::Show => monday_of(after(path, 7)).map(Target::Show),
-        Place::Export => monday_of(before_export(after(path, 7))).map(Target::Export),
+        Place::Show => read_monday(after(path, 7)).map(Target::Show),
+        Place::Export => read_monday(before_export(after(path, 7))).map(Target::Export),
     }
 }
 

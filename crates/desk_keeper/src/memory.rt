@@ -1,5 +1,5 @@
 // A keeper in memory, which tells its tables. Some of its calls fail, as they are told to.
-ghost use Rattle.std.specs.Prelude.{◌≡◌, ◌≤◌, ◌≤ℤ◌, pos, IfSome, IfOk, OnOk, OnErr, Some, option_map, option_copied, find, map, position};
+ghost use Rattle.std.specs.Prelude.{◌≡◌, ◌≤◌, ◌≤ℤ◌, pos, [], IfSome, IfOk, OnOk, OnErr, Some, option_map, option_copied, find, map, position};
 ghost use Rattle.std.specs.Ordering.{int_eq};
 ghost use Rattle.std.specs.Str.{bytes_eq};
 ghost use Rattle.desk_keeper.specs.Tables.{kept_fields, driver_fields};
@@ -208,6 +208,22 @@ fn others(drafts: Many<Draft>, monday: Monday) -> Many<Draft>
 }
 
 impl MemoryKeeper {
+    /// A keeper that keeps nothing yet, whose calls of these numbers are to fail.
+    pub fn new(alloc: Global, fails: Many<u64>) -> MemoryKeeper
+        ensures tables { tables_of result ≡ record { histories = []; drafts = []; issues = [] } }
+        ensures fails { result.fails ≡ fails }
+        ensures counts { (result.calls ≡ 0) × (result.faults ≡ 0) }
+    {
+        MemoryKeeper {
+            histories: Many::new(alloc),
+            drafts: Many::new(alloc),
+            issues: Many::new(alloc),
+            calls: 0,
+            fails,
+            faults: 0,
+        }
+    }
+
     /// Counts a call, and fails it where it is to fail.
     fn begin(&mut self) -> Result<(), KeeperError>
         ensures fault { FaultsWhere (fails_next self.old) result }

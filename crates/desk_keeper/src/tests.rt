@@ -40,14 +40,7 @@ fn draft_of(alloc: Global, monday: Monday, revision: u64) -> Result<Option<Draft
 }
 
 fn keeper(alloc: Global, fails: u64) -> Result<MemoryKeeper, Memory> {
-    Ok(MemoryKeeper {
-        histories: Many::new(alloc),
-        drafts: Many::new(alloc),
-        issues: Many::new(alloc),
-        calls: 0,
-        fails: Many::from_slice(alloc, &[fails])?,
-        faults: 0,
-    })
+    Ok(MemoryKeeper::new(alloc, Many::from_slice(alloc, &[fails])?))
 }
 
 // Puts the next draft of a week that is not published, by three calls. Its revision, or 0 for a published week.

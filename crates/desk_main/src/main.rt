@@ -10,9 +10,9 @@ mod stores;
 
 use desk::{WANT_OF_MEMORY, run_desk, run_gated};
 use desk_io::{Sink, Source, StdSink, StdSource};
-use desk_keeper::Keeper;
+use desk_keeper::{Keeper, MemoryKeeper};
 use desk_words::{Ask, WordsError, read_words};
-use minute_line::Memory;
+use minute_line::{Many, Memory};
 use progress::Progress;
 use serving::serve;
 use std::env;
@@ -20,7 +20,7 @@ use std::io::{ErrorKind, IsTerminal};
 use std::net::{Net, TcpListener, TcpStream};
 use std::process::ExitCode;
 use std::thread::Threads;
-use stores::{close_file, empty_keeper, open_file, tell_unopened};
+use stores::{close_file, open_file, tell_unopened};
 
 /// The words after the program's name; none where the system does not give them as text.
 fn words(rt: &HostRuntime) -> Result<Vec<String>, Memory> {
@@ -99,7 +99,7 @@ where
         // A run reads the words again: it must not answer from a keeper of nothing what the store was to be asked.
         Err(WordsError::Memory) => WANT_OF_MEMORY,
         Ok(Ask::Check | Ask::Make(_, _)) | Err(WordsError::Usage) => {
-            let mut keeper = empty_keeper(rt.alloc());
+            let mut keeper = MemoryKeeper::new(rt.alloc(), Many::new(rt.alloc()));
             run_over(handles, rt, words, source, sink, &mut keeper)
         }
     }

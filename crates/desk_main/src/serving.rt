@@ -2,14 +2,14 @@
 use crate::stores::{close_file, open_file, tell_unopened};
 use desk::{WANT_OF_MEMORY, tell};
 use desk_http::serve_link;
-use desk_io::{Link, Sink, StdSink, StdSource};
+use desk_io::{Got, Link, Sink, Source, StdSink, StdSource};
 use desk_keeper::Keeper;
 use duty_plan::Straight;
 use minute_line::Memory;
 use planners::PoolPlanner;
 use std::alloc::Global;
 use std::io;
-use std::net::{Net, OpenListener, OpenStream, TcpListener, TcpStream};
+use std::net::{Net, OpenListener, OpenStream, Shutdown, TcpListener, TcpStream};
 use std::thread::Threads;
 use std::time::Duration;
 
@@ -18,6 +18,33 @@ const LISTEN_FAULT: u8 = 9;
 
 /// How many seconds a client may let the desk wait for its next bytes, or for taking the answer's.
 const PATIENCE: u64 = 10;
+
+/// How many seconds an answered client may let the desk wait for what it still sends, or for its end.
+const LAST_PATIENCE: u64 = 1;
+
+/// The most reads of what an answered client still sends, and the most bytes of one: a body over the limit fits in.
+const LAST_READS: usize = 256;
+
+const LAST_PIECE: usize = 8192;
+
+/// Takes what an answered client still sends, to its end. A connection that is closed over unread bytes is reset, and the answer may
+/// be lost.
+fn take_leave(stream: &TcpStream) -> io::Result<()> {
+    stream.shutdown(Shutdown::Write)?;
+    stream.set_read_timeout(Some(Duration::from_secs(LAST_PATIENCE)))?;
+    let mut source = StdSource {
+        inner: stream,
+        faults: 0,
+    };
+    let mut piece = [0u8; LAST_PIECE];
+    for _ in 0..LAST_READS {
+        match source.read(&mut piece) {
+            Got::Bytes(_) => {}
+            Got::End | Got::Failed => break,
+        }
+    }
+    Ok(())
+}
 
 /// Answers the request of one connection. A client that keeps the desk waiting is let go.
 fn serve_stream<R: Threads + Sync, B: Keeper>(
@@ -46,7 +73,7 @@ fn serve_stream<R: Threads + Sync, B: Keeper>(
         keeper,
         &mut PoolPlanner,
     );
-    Ok(())
+    take_leave(stream)
 }
 
 /// Answers so many connections, one after another. What becomes of one does not keep the next from being answered.

@@ -1,9 +1,9 @@
-// The store in the current folder, and a keeper for what asks no store.
-use desk::{KEEPER_FAULT, WANT_OF_MEMORY, tell};
+// The store in the current folder.
+use desk::{WANT_OF_MEMORY, tell};
+use desk_core::KEEPER_FAULT;
 use desk_io::Sink;
-use desk_keeper::MemoryKeeper;
 use keeper_sqlite::{OpenError, SqliteKeeper, open_store};
-use minute_line::{Many, Memory};
+use minute_line::Memory;
 use sqlite::{Connection, File, FileStore};
 use std::alloc::Global;
 
@@ -23,18 +23,6 @@ pub(crate) fn open_file(rt: &HostRuntime) -> Result<SqliteKeeper<FileStore<File>
 /// next opening reads.
 pub(crate) fn close_file(keeper: SqliteKeeper<FileStore<File>>) {
     let _ = keeper.into_connection().close();
-}
-
-/// A keeper in memory that keeps nothing.
-pub(crate) fn empty_keeper(alloc: Global) -> MemoryKeeper {
-    MemoryKeeper {
-        histories: Many::new(alloc),
-        drafts: Many::new(alloc),
-        issues: Many::new(alloc),
-        calls: 0,
-        fails: Many::new(alloc),
-        faults: 0,
-    }
 }
 
 /// The line of a store of another version.

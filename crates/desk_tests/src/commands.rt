@@ -1,11 +1,7 @@
 // Commands over one keeper, one after another.
 
-use crate::running::{WITHOUT_DRIVERS, new_keeper, reports, says};
+use crate::running::{ONE_DRIVER, PLANNED, WITHOUT_DRIVERS, new_keeper, reports, says};
 use std::test::Fail;
-
-/// The plan of the week without drivers.
-const PLANNED: &str =
-    "week 2026-03-02\ncost 13500\nbound 13500\nstate proved\nnodes 1\norder A out 9000\norder B out 4500\ndraft 1\n";
 
 /// The same, once it is published.
 const PUBLISHED: &str =
@@ -14,10 +10,6 @@ const PUBLISHED: &str =
 /// Its rows and its tree.
 const EXPORTED: &str =
     "week,2026-03-02\nout,A,9000\nout,B,4500\nnode,1,0,,,root,13500,0,closed\nprice,1,9000,4500\n";
-
-/// A week of one driver, whose trip costs 8,000.
-const ONE_DRIVER: &str =
-    "week,2026-03-02,15,3000,15\nplace,HUB\nplace,P\nleg,HUB,P,60,3000\nleg,P,HUB,60,3000\ndriver,D1,24000,2000\nrest,D1,2026-02-28T00:00,2700\nworked,D1,0,0,0,0,0,0,0,0,0,0,0,0,0,0,0,0,0\npast,D1,OFF,2880\norder,A,P,2026-03-02T08:00,2026-03-02T12:00,30,12000,9000\n";
 
 /// The same a week later.
 const NEXT_WEEK: &str =

@@ -2,7 +2,7 @@
 
 ghost use Rattle.std.specs.Prelude.{◌<◌, ◌≤◌};
 
-use crate::running::{WITHOUT_DRIVERS, new_keeper, run_at, says};
+use crate::running::{ONE_DRIVER, PLANNED, WITHOUT_DRIVERS, new_keeper, run_at, says};
 use duty_plan::Straight;
 use minute_line::{Many, Memory};
 use std::alloc::Global;
@@ -11,10 +11,6 @@ use std::thread::Threads;
 
 /// The line for words that are no command.
 const USAGE: &str = "usage: desk plan|check|publish|show|export|make|serve [--name value]\n";
-
-/// The plan of the week without drivers: five pieces of 20 bytes, and one more.
-const PLANNED: &str =
-    "week 2026-03-02\ncost 13500\nbound 13500\nstate proved\nnodes 1\norder A out 9000\norder B out 4500\ndraft 1\n";
 
 /// Whether a plan whose sink fails at that call ends with 6, with what the calls before it wrote, and its draft stands.
 fn has_begun<R: Threads + Sync>(rt: &R, alloc: Global, call: u64) -> Result<bool, Memory>
@@ -73,10 +69,6 @@ fn each_call_of_a_source_may_fail(rt: HostRuntime) -> Result<(), Fail> {
     }
     Ok(())
 }
-
-/// A week of one driver, whose trip costs 8,000.
-const ONE_DRIVER: &str =
-    "week,2026-03-02,15,3000,15\nplace,HUB\nplace,P\nleg,HUB,P,60,3000\nleg,P,HUB,60,3000\ndriver,D1,24000,2000\nrest,D1,2026-02-28T00:00,2700\nworked,D1,0,0,0,0,0,0,0,0,0,0,0,0,0,0,0,0,0\npast,D1,OFF,2880\norder,A,P,2026-03-02T08:00,2026-03-02T12:00,30,12000,9000\n";
 
 /// Whether a plan of that week ends with 7 where the keeper's call of this number fails, and keeps nothing.
 fn is_not_kept<R: Threads + Sync>(rt: &R, alloc: Global, call: u64) -> Result<bool, Memory> {

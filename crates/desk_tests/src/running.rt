@@ -16,16 +16,17 @@ const ROOM: usize = 4096;
 pub(crate) const WITHOUT_DRIVERS: &str =
     "week,2026-03-02,15,3000,15\nplace,HUB\nplace,LYON\norder,A,LYON,2026-03-02T08:00,2026-03-02T12:00,30,12000,9000\norder,B,LYON,2026-03-03T08:00,2026-03-03T12:00,30,12000,4500\n";
 
+/// The plan of the week without drivers.
+pub(crate) const PLANNED: &str =
+    "week 2026-03-02\ncost 13500\nbound 13500\nstate proved\nnodes 1\norder A out 9000\norder B out 4500\ndraft 1\n";
+
+/// A week of one driver, whose trip costs 8,000.
+pub(crate) const ONE_DRIVER: &str =
+    "week,2026-03-02,15,3000,15\nplace,HUB\nplace,P\nleg,HUB,P,60,3000\nleg,P,HUB,60,3000\ndriver,D1,24000,2000\nrest,D1,2026-02-28T00:00,2700\nworked,D1,0,0,0,0,0,0,0,0,0,0,0,0,0,0,0,0,0\npast,D1,OFF,2880\norder,A,P,2026-03-02T08:00,2026-03-02T12:00,30,12000,9000\n";
+
 /// A keeper that keeps nothing yet, whose call of this number fails. No call has the number 0.
 pub(crate) fn new_keeper(alloc: Global, fails: u64) -> Result<MemoryKeeper, Memory> {
-    Ok(MemoryKeeper {
-        histories: Many::new(alloc),
-        drafts: Many::new(alloc),
-        issues: Many::new(alloc),
-        calls: 0,
-        fails: Many::from_slice(alloc, &[fails])?,
-        faults: 0,
-    })
+    Ok(MemoryKeeper::new(alloc, Many::from_slice(alloc, &[fails])?))
 }
 
 fn owned(alloc: Global, words: &[&str]) -> Result<Vec<String>, Memory> {

@@ -1,4 +1,2 @@
 pub mod DeskCommand
-pub mod SaidMondays
-pub mod SmallPowers
 pub mod BareWords

@@ -23,15 +23,23 @@ has_draft values = is_some values.monday || is_some values.rev
 abbrev pub has_server : Values → Bool
 has_server values = is_some values.port || is_some values.count
 
--- what a search may spend, where budgets that are not given have these sizes
-abbrev pub limits_or : ℕ → ℕ → ℕ → Values → Limits
-limits_or labels nodes rounds values =
-    record { labels = unwrap_or values.labels labels; nodes = unwrap_or values.nodes nodes; rounds = unwrap_or values.rounds rounds }
+-- what a plan may spend whose limits are not named
+abbrev pub usual_limits : Limits
+usual_limits = record { labels = 65536; nodes = 31; rounds = 8 }
+
+-- what the plan of a made week may spend whose limits are not named
+abbrev pub made_limits : Limits
+made_limits = record { labels = 16384; nodes = 1; rounds = 2 }
+
+-- what a search may spend, where budgets that are not given have the usual sizes
+abbrev pub limits_or : Limits → Values → Limits
+limits_or usual values =
+    record { labels = unwrap_or values.labels usual.labels; nodes = unwrap_or values.nodes usual.nodes; rounds = unwrap_or values.rounds usual.rounds }
 
 -- a plan takes budgets alone
 abbrev pub plan_of : Values → Option Ask
 plan_of values =
-    if is_some values.seed || (has_draft values || has_server values) then None else Some (Plan (limits_or 65536 31 8 values))
+    if is_some values.seed || (has_draft values || has_server values) then None else Some (Plan (limits_or usual_limits values))
 
 -- a check takes nothing
 abbrev pub check_of : Values → Option Ask
@@ -59,7 +67,7 @@ export_of values = option_map (λ monday. Export monday) (only_monday values)
 -- a made week needs a seed, and takes budgets
 abbrev pub make_of : Values → Option Ask
 make_of values =
-    if has_draft values || has_server values then None else option_map (λ seed. Make seed (limits_or 16384 1 2 values)) values.seed
+    if has_draft values || has_server values then None else option_map (λ seed. Make seed (limits_or made_limits values)) values.seed
 
 -- a server needs a port and a number of connections
 abbrev pub serve_of : Values → Option Ask

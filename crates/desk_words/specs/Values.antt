@@ -2,10 +2,8 @@
 use Rattle.std.specs.Prelude.{ℕ, ◌≤◌, if◌then◌else◌, List, Option, Some, None, IfSome, option_map, option_and_then, length, codes}
 use Rattle.std.specs.Int.{is_in_range}
 use Rattle.clap.specs.Words.{Text, Row, first_of}
-use Rattle.minute_line.specs.DateText.{text_day}
 use Rattle.minute_line.specs.declared.dates.Monday.{Monday}
-use Rattle.desk_csv.specs.DateTests.{is_day_text, monday_of}
-use Rattle.desk_csv.specs.Fields.{digits_from}
+use Rattle.desk_csv.specs.Fields.{digits_from, monday_said}
 use Rattle.desk_words.specs.declared.values.Values.{Values}
 
 -- a number is 1 to 9 ASCII digits
@@ -20,10 +18,6 @@ within low high n = if is_in_range low high n then Some n else None
 abbrev pub number_given : ℕ → ℕ → Option Text → Option (Option ℕ)
 number_given low high None = Some None
 number_given low high (Some text) = option_map Some (option_and_then (within low high) (number_of text))
-
--- the Monday of a text
-abbrev pub monday_said : Text → Option Monday
-monday_said text = if is_day_text text then monday_of (text_day text) else None
 
 -- the value of an option that takes a Monday, where the option is given; none where it is no Monday
 abbrev pub monday_given : Option Text → Option (Option Monday)

@@ -15,6 +15,20 @@ use duty_plan::Limits;
 use minute_line::Monday;
 use std::alloc::Global;
 
+/// What a plan may spend whose limits are not named.
+pub const USUAL_LIMITS: Limits = Limits {
+    labels: 65_536,
+    nodes: 31,
+    rounds: 8,
+};
+
+/// What the plan of a made week may spend whose limits are not named.
+const MADE_LIMITS: Limits = Limits {
+    labels: 16_384,
+    nodes: 1,
+    rounds: 2,
+};
+
 /// What the desk is asked for.
 #[derive(Clone, Copy, Debug)]
 pub enum Ask {
@@ -60,7 +74,7 @@ impl Values {
     fn limits_or(&self, usual: Limits) -> Limits
         requires usual { IsLimits usual }
         requires in_range { AreInRange self.now }
-        ensures limits { result ≡ limits_or usual.labels usual.nodes usual.rounds self.now }
+        ensures limits { result ≡ limits_or usual self.now }
         ensures in_range { IsLimits result }
     {
         Limits {
@@ -80,11 +94,7 @@ fn plan_in(values: &Values) -> Option<Ask>
     if values.seed.is_some() || values.has_draft() || values.has_server() {
         return None;
     }
-    Some(Ask::Plan(values.limits_or(Limits {
-        labels: 65536,
-        nodes: 31,
-        rounds: 8,
-    })))
+    Some(Ask::Plan(values.limits_or(USUAL_LIMITS)))
 }
 
 /// A check, which has no options.
@@ -150,12 +160,7 @@ fn make_in(values: &Values) -> Option<Ask>
         return None;
     }
     let seed = values.seed?;
-    let limits = values.limits_or(Limits {
-        labels: 16384,
-        nodes: 1,
-        rounds: 2,
-    });
-    Some(Ask::Make(seed as u64, limits))
+    Some(Ask::Make(seed as u64, values.limits_or(MADE_LIMITS)))
 }
 
 /// A server with its options.

@@ -6,5 +6,5 @@ mod command;
 mod values;
 mod words_error;
 
-pub use asks::{Ask, read_words};
+pub use asks::{Ask, USUAL_LIMITS, read_words};
 pub use words_error::WordsError;

@@ -1,11 +1,11 @@
 // The values of the options.
-ghost use Rattle.std.specs.Prelude.{◌≡◌, ◌≤◌, length, IfSome, option_map, option_and_then, codes};
+ghost use Rattle.std.specs.Prelude.{◌≡◌, ◌≤◌, IfSome, option_map, option_and_then, codes};
 ghost use Rattle.clap.specs.Words.{first_of, found_of, rows_of};
-ghost use Rattle.desk_csv.specs.Fields.{digits_from};
-ghost use Rattle.desk_words.specs.Values.{number_of, within, number_given, monday_said, monday_given, values_of, IsGivenWithin, AreInRange};
+ghost use Rattle.desk_words.specs.Values.{number_of, within, number_given, monday_given, values_of, IsGivenWithin, AreInRange};
 
 use clap::ArgMatches;
-use minute_line::{Monday, monday_in};
+use desk_csv::{read_digits, read_monday};
+use minute_line::Monday;
 
 /// The values of the options that are given.
 #[derive(Clone, Copy, Debug)]
@@ -20,29 +20,14 @@ pub(crate) struct Values {
     pub(crate) count: Option<u32>,
 }
 
-/// The number that at most nine ASCII digits make.
-fn digits(text: &[u8]) -> Option<u32>
-    requires { length text.now ≤ 9 }
-    ensures { result ≡ digits_from 0 text.now }
-{
-    let mut number = 0;
-    for byte in text {
-        if *byte < b'0' || *byte > b'9' {
-            return None;
-        }
-        number = 10 * number + (*byte - b'0') as u32;
-    }
-    Some(number)
-}
-
 /// The number of a text of 1 to 9 ASCII digits.
-fn number_of(text: &[u8]) -> Option<u32>
+fn number_of(text: &[u8]) -> Option<u64>
     ensures { result ≡ number_of text.now }
 {
     if text.is_empty() || text.len() > 9 {
         return None;
     }
-    digits(text)
+    read_digits(text)
 }
 
 /// The number of a text, from `low` to `high`.
@@ -51,17 +36,10 @@ fn number_within(text: &[u8], low: u32, high: u32) -> Option<u32>
     ensures in_range { IfSome result (λ n. (low ≤ n) × (n ≤ high)) }
 {
     let number = number_of(text)?;
-    if number < low || number > high {
+    if number < low as u64 || number > high as u64 {
         return None;
     }
-    Some(number)
-}
-
-/// The Monday of a text.
-fn monday_of(text: &[u8]) -> Option<Monday>
-    ensures { result ≡ monday_said text.now }
-{
-    monday_in(text)
+    Some(number as u32)
 }
 
 /// The value of the option of that name, as text.
@@ -90,7 +68,7 @@ fn monday_at(matches: &ArgMatches<'_>) -> Option<Option<Monday>>
     let Some(text) = text_at(matches, "monday") else {
         return Some(None);
     };
-    let monday = monday_of(text.as_bytes())?;
+    let monday = read_monday(text.as_bytes())?;
     Some(Some(monday))
 }
 

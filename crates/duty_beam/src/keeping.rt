@@ -27,11 +27,15 @@ impl Nodes {
         }
     }
 
-    /// Whether a node of the bucket betters a label.
+    /// Whether a node of the bucket betters a label. The place comes first: most nodes of a bucket are at another one.
     fn betters(&self, bucket: usize, label: &Label, forced: u128) -> bool {
         for number in self.numbers(bucket) {
             let node = self.nodes.get(*number as usize);
-            if node.is_some_and(|node| node.label.fee_paid && better(&node.label, label, forced)) {
+            if node.is_some_and(|node| {
+                node.label.fee_paid
+                    && node.label.place == label.place
+                    && better(&node.label, label, forced)
+            }) {
                 return true;
             }
         }
@@ -41,7 +45,11 @@ impl Nodes {
     /// Whether a label betters a node that was not gone on with.
     fn is_worse(&self, number: u32, label: &Label, forced: u128) -> bool {
         match self.nodes.get(number as usize) {
-            Some(node) => !node.is_extended && better(label, &node.label, forced),
+            Some(node) => {
+                !node.is_extended
+                    && node.label.place == label.place
+                    && better(label, &node.label, forced)
+            }
             None => false,
         }
     }

@@ -12,7 +12,5 @@ mod nodes;
 mod prospects;
 mod searches;
 mod staying;
-#[cfg(test)]
-mod tests;
 
 pub use beams::{Beam, make_beam};

@@ -4,4 +4,5 @@ pub mod Growing
 pub mod Naming
 pub mod Reaching
 pub mod Closing
+pub mod Taking
 pub mod Prunes

@@ -1,5 +1,5 @@
 -- What the prune loses, and what it keeps.
-use Rattle.std.proofs.Common.{◌↔◌, ◌≡◌, inl, inr, ℕ, ◌+◌, ◌<◌, ◌≤◌, Bool, true, false, leb, cond, [], ◌∷◌, ◌++◌, length, refl, ap, sym, subst, ◌∙◌, arith, Option, Some, None, ℤ, ◌≤ℤ◌}
+use Rattle.std.proofs.Common.{◌≡◌, inl, inr, ℕ, ◌+◌, ◌<◌, ◌≤◌, Bool, true, false, leb, cond, [], ◌∷◌, ◌++◌, length, refl, ap, sym, ◌∙◌, arith, Option, Some, None, ℤ, ◌≤ℤ◌}
 use Rattle.std.proofs.lemmas.Int.{ints, by_lt_z}
 use Rattle.std.proofs.lemmas.Bool.{leb-true, le-leb}
 use Rattle.std.specs.Int.{bit_at}
@@ -23,7 +23,7 @@ use Rattle.duty_plan.proofs.Sums.{total-mono}
 use Rattle.duty_plan.proofs.WeekLimits.{early}
 use Rattle.duty_label.specs.declared.walks.Walks.{Walks}
 use Rattle.duty_label.specs.Walks.{end_of, total_of_legs, place_of}
-use Rattle.duty_label.specs.Pruning.{AreWalksOf, IsHopeless, Knows, IsWayHome, KeepsHopeful, KeepsOnTime, LacksForced, PrunesSoundly, cents_between, completion_value, may_bring, minutes_between, reaches}
+use Rattle.duty_label.specs.Pruning.{AreWalksOf, Knows, IsWayHome, KeepsHopeful, KeepsOnTime, LacksForced, PrunesSoundly, cents_between, completion_value, may_bring, minutes_between, reaches}
 use Rattle.duty_label.proofs.Reaching.{leads, legs_of, leg_by, reached}
 
 -- where the label's steps end
@@ -133,10 +133,10 @@ no-forced : (case : Case) (driver : ℕ) (walks : Walks) (pairs : Pairs) (prices
     AreWalksOf case.week walks → IsLabelOf case driver prices label partial → LacksForced case.week walks driver pairs label →
     IsWayHome case driver pairs partial more → ⊥
 no-forced case driver walks pairs prices label partial more w l f home =
-    let lacking = lacks (serves f.order partial) (bit_at label.served f.order) (bit-of case driver prices label partial f.order l) f.lacking in
-    let later = serves-split f.order partial more lacking (home.inside.forced f.order f.in_week f.forced) in
+    let lacking = lacks (serves f.order partial) (bit_at label.served f.order) (bit-of case driver prices label partial f.order l) f.lost.lacking in
+    let later = serves-split f.order partial more lacking (home.inside.forced f.order f.in_week f.lost.forced) in
     let there = reaches-later case driver walks prices label partial more f.order w l home.lawful later in
-    let out = f.out in
+    let out = f.lost.out in
     cc
 
 known-more : (known : Option ℤ) (x y : ℤ) → x ≤ℤ y → Knows known x → Knows known y
@@ -169,7 +169,7 @@ keeps_on_time case driver walks pairs prices known label partial l not_hopeless 
             let reach = leb-true (label.clock.at + minutes_between walks label.place (place_of (order_of case.week order))) (closes_of (order_of case.week order)) h in
             absurd (omega (arith, reach, closed, at-label case driver prices label partial l))
         by_reach false h bit =
-            absurd (not_hopeless (inr (inl (record { order = order; in_week = low; forced = forced; lacking = bit; out = h }))))
+            absurd (not_hopeless (inr (inl (record { order = order; in_week = low; lost = record { forced = forced; lacking = bit; out = h } }))))
 
 -- what may be brought in from the label is still open
 brings-open : (case : Case) (driver : ℕ) (walks : Walks) (pairs : Pairs) (prices : Prices) (label : Label) (partial : PartialDuty) (o : ℕ) →
@@ -205,26 +205,3 @@ keeps_hopeful case driver walks pairs prices known label partial l not_hopeless 
     by_lt_z (completion_value case.week walks driver pairs prices label) known
     (λ below. omega (arith, ints, below, less, l.value))
     (λ better. absurd (not_hopeless (inr (inr better))))
-
--- ---- whether it is hopeless
-
-differ : (b : Bool) → b ≡ true → b ≡ false → ⊥
-differ true t f = cc
-differ false t f = cc
-
--- a label that can come home and lacks nothing is hopeless just where its completions are worth no less than what is known
-pub hopeless-known : (week : Week) (walks : Walks) (driver : ℕ) (pairs : Pairs) (prices : Prices) (label : Label) (known : Option ℤ) (least value : ℤ)
-    (far lacks better : Bool) → known ≡ Some least → ((far ≡ true) ↔ (10080 < label.clock.at + minutes_between walks label.place 0)) → far ≡ false →
-    ((lacks ≡ true) ↔ LacksForced week walks driver pairs label) → lacks ≡ false → value ≡ completion_value week walks driver pairs prices label →
-    ((better ≡ true) ↔ (least ≤ℤ value)) → ((better ≡ true) ↔ IsHopeless week walks driver pairs prices label known)
-hopeless-known week walks driver pairs prices label known least value far lacks better is f not_far l not_lacking same b =
-    subst (λ (k : Option ℤ). (better ≡ true) ↔ IsHopeless week walks driver pairs prices label k) (sym is) (
-      (λ t. inr (inr (subst (λ (v : ℤ). least ≤ℤ v) same (b.0 t)))),
-      λ h. elim h [
-        | inl too_far ↦ absurd (differ far (f.1 too_far) not_far)
-        | inr rest ↦ elim rest [
-          | inl forced ↦ absurd (differ lacks (l.1 forced) not_lacking)
-          | inr less ↦ b.1 (subst (λ (v : ℤ). least ≤ℤ v) (sym same) less)
-        ]
-      ],
-    )

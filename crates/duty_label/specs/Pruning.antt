@@ -16,7 +16,8 @@ use Rattle.duty_plan.specs.Labels.{IsLabelOf, closes_of}
 use Rattle.duty_plan.specs.LabelLists.{completion_bound}
 use Rattle.duty_plan.specs.Sums.{total_below}
 use Rattle.duty_label.specs.declared.walks.Walks.{Walks}
-use Rattle.duty_label.specs.Walks.{AreLeastMinutes, AreLeastCents, can_reach}
+use Rattle.duty_plan.specs.Acts.{cents_of_road, minutes_of_road}
+use Rattle.duty_label.specs.Walks.{AreLeastMinutes, AreLeastCents, AreTaken, can_reach}
 use Rattle.duty_label.specs.Tables.{cell}
 
 -- the bound on the minutes of the walks from one place to another
@@ -32,17 +33,26 @@ pub record AreWalksOf (week : Week) (walks : Walks) : Type 0 where
   pub minutes : AreLeastMinutes week (minutes_between walks)
   pub cents : AreLeastCents week (cents_between walks)
 
+-- and each number of them is what some walk takes, but where it is the largest number
+pub record AreLeastWalksOf (week : Week) (walks : Walks) : Type 0 where
+  pub minutes : AreTaken minutes_of_road week (minutes_between walks)
+  pub cents : AreTaken cents_of_road week (cents_between walks)
+
 -- the order can be reached from where the label's steps end
 abbrev pub reaches : Week → Walks → Label → ℕ → Bool
 reaches week walks label order = can_reach week (minutes_between walks) label.clock.at label.place order
+
+-- the order is Forced for the driver and lacking, and can't be reached any more
+pub record IsLost (week : Week) (walks : Walks) (driver : ℕ) (pairs : Pairs) (label : Label) (order : ℕ) : Type 0 where
+  pub forced : pair_at pairs driver order ≡ Forced
+  pub lacking : bit_at label.served order ≡ 0
+  pub out : reaches week walks label order ≡ false
 
 -- an order that is Forced for the driver is lacking, and can't be reached any more
 pub record LacksForced (week : Week) (walks : Walks) (driver : ℕ) (pairs : Pairs) (label : Label) : Type 0 where
   pub order : ℕ
   pub in_week : order < length week.orders
-  pub forced : pair_at pairs driver order ≡ Forced
-  pub lacking : bit_at label.served order ≡ 0
-  pub out : reaches week walks label order ≡ false
+  pub lost : IsLost week walks driver pairs label order
 
 -- the price of an order that may still be brought in: it isn't served, isn't Barred, and can be reached
 abbrev pub may_bring : Week → Walks → ℕ → Pairs → Prices → Label → ℕ → ℕ

@@ -1,5 +1,5 @@
 -- Tables of numbers from each of 64 places to each.
-use Rattle.std.specs.Prelude.{◌≡◌, ◌⊎◌, ℕ, ◌+◌, ◌<◌, ◌≤◌, List, [], slice_index_or, All}
+use Rattle.std.specs.Prelude.{◌≡◌, ◌≢◌, ◌⊎◌, ℕ, ◌+◌, ◌<◌, ◌≤◌, List, [], slice_index_or, All}
 use Rattle.week_book.specs.declared.weeks.Leg.{Leg as Road}
 use Rattle.week_book.specs.declared.weeks.Week.{Week}
 
@@ -38,6 +38,16 @@ IsBelow old new = (from to : ℕ) → from < 64 → to < 64 → cell new from to
 -- no number is more than what is needed over one of the first places
 abbrev pub IsClosedOver : ℕ → List (List ℕ) → Type 0
 IsClosedOver count rows = (from by to : ℕ) → from < 64 → by < count → to < 64 → cell rows from to ≤ cell rows from by + cell rows by to
+
+-- each number from a place to another is at least the largest number that is counted
+abbrev pub IsNowhere : List (List ℕ) → Type 0
+IsNowhere rows = (from to : ℕ) → from < 64 → to < 64 → from ≢ to → 18446744073709551615 ≤ cell rows from to
+
+-- but for the number from one place to another, which became the lesser one of itself and a number, a table stayed
+pub record IsNoted (from to number : ℕ) (old new : List (List ℕ)) : Type 0 where
+  pub noted : (cell new from to ≡ cell old from to) ⊎ (cell new from to ≡ number)
+  pub rows : (a b : ℕ) → a ≢ from → cell new a b ≡ cell old a b
+  pub columns : (b : ℕ) → b ≢ to → cell new from b ≡ cell old from b
 
 -- no number is more than what a leg takes
 abbrev pub IsBelowLegs : (Road → ℕ) → Week → List (List ℕ) → Type 0

@@ -1,5 +1,5 @@
 -- Walks, which are lists of legs, and lower bounds on what they take.
-use Rattle.std.specs.Prelude.{◌≡◌, ℕ, ◌+◌, ◌<◌, ◌≤◌, Bool, true, nat_le, List, [], ◌∷◌, length, Option, Some, None, is_some, slice_index_or, All}
+use Rattle.std.specs.Prelude.{◌≡◌, ◌⊎◌, ℕ, ◌+◌, ◌<◌, ◌≤◌, Bool, true, nat_le, List, [], ◌∷◌, length, Option, Some, None, is_some}
 use Rattle.week_book.specs.declared.weeks.Leg.{Leg as Road}
 use Rattle.week_book.specs.declared.weeks.Order.{Order}
 use Rattle.week_book.specs.declared.weeks.Week.{Week}
@@ -26,6 +26,18 @@ total_of_legs takes week from (to ∷ before) = total_of_legs takes week from be
 abbrev pub AreLowerBounds : (Option Road → ℕ) → Week → (ℕ → ℕ → ℕ) → Type 0
 AreLowerBounds takes week least = (from : ℕ) (places : List ℕ) → AreLegs week from places →
     least from (end_of from places) ≤ total_of_legs takes week from places
+
+-- a list of legs from one place to another takes just so much
+pub record IsWalk (takes : Option Road → ℕ) (week : Week) (from to total : ℕ) : Type 0 where
+  pub places : List ℕ
+  pub legs : AreLegs week from places
+  pub ends : end_of from places ≡ to
+  pub taken : total_of_legs takes week from places ≡ total
+
+-- each of these numbers is what some list of legs takes, but where it is the largest number that is counted
+abbrev pub AreTaken : (Option Road → ℕ) → Week → (ℕ → ℕ → ℕ) → Type 0
+AreTaken takes week least = (from to : ℕ) → from < 64 → to < 64 →
+    (18446744073709551615 ≤ least from to) ⊎ IsWalk takes week from to (least from to)
 
 -- bounds that no leg undercuts, where nothing is needed from a place to itself
 pub record AreClosed (takes : Option Road → ℕ) (week : Week) (least : ℕ → ℕ → ℕ) : Type 0 where

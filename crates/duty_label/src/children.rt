@@ -51,6 +51,7 @@ fn position(label: &Label) -> Position
 }
 
 /// The label of the label's steps with one more, or the first fault of that step.
+#[inline(always)]
 fn longer(
     case: &Case,
     driver: u32,

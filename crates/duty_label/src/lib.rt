@@ -3,22 +3,17 @@
 #![tactic(auto)]
 
 mod children;
-#[cfg(test)]
-mod desks;
 mod laws;
 mod prices;
 mod pruning;
-#[cfg(test)]
-mod pruning_tests;
 mod refusals;
 mod tables;
-#[cfg(test)]
-mod tests;
 mod walks;
 
 pub use children::{child, first};
 pub use duty_plan::Label;
 pub use laws::{named_as_judged, prune};
 pub use prices::price_of_act;
+pub use pruning::has_order;
 pub use refusals::NoChild;
 pub use walks::{Walks, make_walks};

@@ -1,12 +1,12 @@
 // Which labels need not be stored, by what the walks from their places take at least.
-ghost use Rattle.std.specs.Prelude.{◌≡◌, ◌<◌, ◌≤◌, ◌↔◌, ◌+◌, ◌==◌, not, true, ◌≤ℤ◌, length};
+ghost use Rattle.std.specs.Prelude.{◌≡◌, ◌<◌, ◌≤◌, ◌↔◌, ◌+◌, ◌==◌, not, true, ◌≤ℤ◌, ◌+ℤ◌, ◌-ℤ◌, pos, length, None, IfSome};
 ghost use Rattle.std.specs.Int.{bit_at};
 ghost use Rattle.minute_line.specs.declared.lines.TheConstants.{WEEK_MINUTES};
 ghost use Rattle.week_book.specs.Weeks.{IsWeek};
 ghost use Rattle.duty_plan.specs.Duties.{IsCase};
 ghost use Rattle.duty_plan.specs.Sums.{total_below};
 ghost use Rattle.duty_plan.specs.Values.{IsPairs, IsPrices};
-ghost use Rattle.duty_label.specs.Pruning.{IsHopeless, Knows, LacksForced, completion_value, may_bring, minutes_between, reaches};
+ghost use Rattle.duty_label.specs.Pruning.{IsHopeless, IsLost, Knows, LacksForced, cents_between, may_bring, minutes_between, reaches};
 
 use crate::prices::price_of_act;
 use crate::walks::Walks;
@@ -15,7 +15,7 @@ use minute_line::WEEK_MINUTES;
 use week_book::Week;
 
 /// Whether an order is one of some orders; order n is the bit n.
-pub(crate) fn has_order(orders: u128, order: u32) -> bool
+pub fn has_order(orders: u128, order: u32) -> bool
     requires { order < 128 }
     ensures { result ≡ not (bit_at orders order == 0) }
 {
@@ -46,25 +46,8 @@ impl Walks {
         !left.is_some_and(|left| self.minutes(label.place, 0) <= u64::from(left))
     }
 
-    /// Whether an order that is Forced for the driver is lacking, and can't be reached any more.
-    fn lacks_forced(&self, week: &Week, driver: u32, pairs: &Pairs, label: &Label) -> bool
-        requires week { IsWeek week.now }
-        requires driver { driver < length week.now.drivers }
-        requires pairs { IsPairs week.now pairs.now }
-        ensures { result ≡ true ↔ LacksForced week.now self.now driver pairs.now label.now }
-    {
-        for order in 0..week.orders.len() as u32 {
-            if matches!(pairs.pair(week, driver, order), Pair::Forced)
-                && !has_order(label.served, order)
-                && !self.reaches(week, label, order)
-            {
-                return true;
-            }
-        }
-        false
-    }
-
-    /// The price of an order, in cents, where the label's driver may still serve it, else nothing.
+    /// The price of an order, in cents, where the label's driver may still serve it, else nothing; none where it is Forced for the
+    /// driver, lacking, and can't be reached any more.
     fn may_bring(
         &self,
         week: &Week,
@@ -73,25 +56,32 @@ impl Walks {
         prices: &Prices,
         label: &Label,
         order: u32,
-    ) -> u64
+    ) -> Option<u64>
         requires week { IsWeek week.now }
         requires driver { driver < length week.now.drivers }
         requires pairs { IsPairs week.now pairs.now }
         requires prices { IsPrices week.now prices.now }
         requires order { order < length week.now.orders }
-        ensures exact { result ≡ may_bring week.now self.now driver pairs.now prices.now label.now order }
-        ensures bound { result ≤ 100000000 }
+        ensures exact { IfSome result (λ cents. cents ≡ may_bring week.now self.now driver pairs.now prices.now label.now order) }
+        ensures bound { IfSome result (λ cents. cents ≤ 100000000) }
+        ensures lost { result ≡ None ↔ IsLost week.now self.now driver pairs.now label.now order }
     {
-        if !has_order(label.served, order)
-            && !matches!(pairs.pair(week, driver, order), Pair::Barred)
-            && self.reaches(week, label, order)
-        {
-            return price_of_act(week, prices, Act::Serve(order));
+        // Most orders are out of reach; whether one is served takes longer to see.
+        let pair = pairs.pair(week, driver, order);
+        if !self.reaches(week, label, order) {
+            if matches!(pair, Pair::Forced) && !has_order(label.served, order) {
+                return None;
+            }
+            return Some(0);
         }
-        0
+        if matches!(pair, Pair::Barred) || has_order(label.served, order) {
+            return Some(0);
+        }
+        Some(price_of_act(week, prices, Act::Serve(order)))
     }
 
-    /// The prices of all orders that the label's driver may still serve, in cents.
+    /// The prices of all orders that the label's driver may still serve, in cents; none where an order that is Forced for the driver is
+    /// lacking, and can't be reached any more.
     fn may_bring_all(
         &self,
         week: &Week,
@@ -99,36 +89,25 @@ impl Walks {
         pairs: &Pairs,
         prices: &Prices,
         label: &Label,
-    ) -> u64
+    ) -> Option<u64>
         requires week { IsWeek week.now }
         requires driver { driver < length week.now.drivers }
         requires pairs { IsPairs week.now pairs.now }
         requires prices { IsPrices week.now prices.now }
-        ensures { result ≡ total_below (may_bring week.now self.now driver pairs.now prices.now label.now) (length week.now.orders) }
+        ensures exact { IfSome result (λ cents. cents ≡ total_below (may_bring week.now self.now driver pairs.now prices.now label.now) (length week.now.orders)) }
+        ensures lost { result ≡ None ↔ LacksForced week.now self.now driver pairs.now label.now }
     {
         let mut cents = 0;
         for order in 0..week.orders.len() as u32 {
-            cents += self.may_bring(week, driver, pairs, prices, label, order);
+            cents += self.may_bring(week, driver, pairs, prices, label, order)?;
         }
-        cents
+        Some(cents)
     }
 
-    /// A lower bound on the values of the completions of the label's steps, in cents.
-    fn completion_value(
-        &self,
-        week: &Week,
-        driver: u32,
-        pairs: &Pairs,
-        prices: &Prices,
-        label: &Label,
-    ) -> i128
-        requires week { IsWeek week.now }
-        requires driver { driver < length week.now.drivers }
-        requires pairs { IsPairs week.now pairs.now }
-        requires prices { IsPrices week.now prices.now }
-        ensures { result ≡ completion_value week.now self.now driver pairs.now prices.now label.now }
+    /// A lower bound on the values of the completions of the label's steps, in cents, which may bring in so many.
+    fn completion_value(&self, label: &Label, brought: u64) -> i128
+        ensures { result ≡ (label.now.value +ℤ pos (cents_between self.now label.now.place 0)) -ℤ pos brought }
     {
-        let brought = self.may_bring_all(week, driver, pairs, prices, label);
         let home = self.cents(label.place, 0);
         i128::from(label.value) + i128::from(home) - i128::from(brought)
     }
@@ -155,14 +134,11 @@ impl Walks {
         if self.is_too_far(label) {
             return true;
         }
-        if self.lacks_forced(&case.week, driver, pairs, label) {
+        let Some(brought) = self.may_bring_all(&case.week, driver, pairs, prices, label) else {
             return true;
-        }
+        };
         match known {
-            Some(known) => {
-                let value = self.completion_value(&case.week, driver, pairs, prices, label);
-                is_at_least(value, known)
-            }
+            Some(known) => is_at_least(self.completion_value(label, brought), known),
             None => false,
         }
     }

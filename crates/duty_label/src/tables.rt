@@ -1,6 +1,7 @@
 // Numbers from each of 64 places to each: what walks take at least.
-ghost use Rattle.std.specs.Prelude.{◌≡◌, ◌<◌, ◌≤◌, length};
-ghost use Rattle.duty_label.specs.Tables.{AreLowered, HasZeros, IsBelow, IsClosedOver, IsLowered, cell, number_at};
+ghost use Rattle.std.specs.Prelude.{◌≡◌, ◌≢◌, ◌<◌, ◌≤◌, ℕ, length};
+ghost use Rattle.duty_label.specs.Tables.{AreLowered, HasZeros, IsBelow, IsClosedOver, IsLowered, IsNoted, IsNowhere, cell, number_at};
+ghost use Rattle.duty_label.specs.Walks.{AreTaken};
 
 use minute_line::Memory;
 use std::alloc::Global;
@@ -29,7 +30,8 @@ pub(crate) fn make_table(alloc: Global) -> Result<Table, Memory> {
 /// The row of a place from which no walk is known but that of no leg.
 fn row_of(place: usize) -> [u64; 64]
     requires { place < 64 }
-    ensures { number_at result place ≡ 0 }
+    ensures zero { number_at result place ≡ 0 }
+    ensures others { (to : ℕ) → to < 64 → to ≢ place → number_at result to ≡ 18446744073709551615 }
 {
     let mut row = [NEVER; 64];
     row[place] = 0;
@@ -51,6 +53,10 @@ fn lower_row(row: &mut [u64; 64], over: usize, through: &[u64; 64])
 }
 
 impl Table {
+    ghost use Rattle.std.specs.Prelude.{Option};
+    ghost use Rattle.week_book.specs.declared.weeks.Leg.{Leg};
+    ghost use Rattle.week_book.specs.declared.weeks.Week.{Week};
+
     /// The number from one place to another; 0 where either is no place of the table.
     pub(crate) fn number(&self, from: u32, to: u32) -> u64
         ensures { result ≡ cell self.now.rows.items from to }
@@ -66,7 +72,8 @@ impl Table {
 
     /// Forgets all walks but those of no leg.
     pub(crate) fn clear(&mut self)
-        ensures { HasZeros self.new.rows.items }
+        ensures zeros { HasZeros self.new.rows.items }
+        ensures nowhere { IsNowhere self.new.rows.items }
     {
         for place in 0..PLACES {
             self.rows[place] = row_of(place);
@@ -79,6 +86,7 @@ impl Table {
         requires to { to < 64 }
         ensures noted { cell self.new.rows.items from to ≤ number }
         ensures below { IsBelow self.old.rows.items self.new.rows.items }
+        ensures others { IsNoted from to number self.old.rows.items self.new.rows.items }
     {
         let row = &mut self.rows[from as usize];
         if number < row[to as usize] {
@@ -104,6 +112,8 @@ impl Table {
         ensures zeros { HasZeros self.new.rows.items }
         ensures below { IsBelow self.old.rows.items self.new.rows.items }
         ensures closed { IsClosedOver 64 self.new.rows.items }
+        ensures taken { (takes : Option Leg → ℕ) (week : Week) → AreTaken takes week (cell self.old.rows.items) →
+            AreTaken takes week (cell self.new.rows.items) }
     {
         for over in 0..PLACES {
             self.lower_over(over);

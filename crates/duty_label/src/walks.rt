@@ -1,7 +1,9 @@
 // What walks take at least: a walk is a list of legs, and a walk of no leg leads from a place to itself.
 ghost use Rattle.std.specs.Prelude.{◌≡◌, ◌<◌, ◌^◌, if◌then◌else◌, length};
 ghost use Rattle.week_book.specs.Weeks.{IsWeek};
+ghost use Rattle.duty_plan.specs.Acts.{cents_of_road, minutes_of_road};
 ghost use Rattle.duty_label.specs.Tables.{HasZeros, IsBelowLegs};
+ghost use Rattle.duty_label.specs.Walks.{AreTaken};
 
 use crate::tables::{Table, make_table};
 use minute_line::Memory;
@@ -33,7 +35,7 @@ fn bit(order: u32, is_in: bool) -> u128
 
 impl Walks {
     ghost use Rattle.duty_label.specs.Walks.{can_reach, reached_from};
-    ghost use Rattle.duty_label.specs.Pruning.{AreWalksOf, cents_between, minutes_between};
+    ghost use Rattle.duty_label.specs.Pruning.{AreLeastWalksOf, AreWalksOf, cents_between, minutes_between};
 
     /// The least minutes of a walk from one place to another; the largest number where none leads there.
     pub fn minutes(&self, from: u32, to: u32) -> u64
@@ -54,10 +56,13 @@ impl Walks {
         requires week { IsWeek week.now }
         requires minutes { HasZeros self.old.minutes.rows.items }
         requires cents { HasZeros self.old.cents.rows.items }
+        requires minutes_taken { AreTaken minutes_of_road week.now (minutes_between self.old) }
+        requires cents_taken { AreTaken cents_of_road week.now (cents_between self.old) }
         ensures minute_zeros { HasZeros self.new.minutes.rows.items }
         ensures cent_zeros { HasZeros self.new.cents.rows.items }
         ensures minutes { IsBelowLegs (λ leg. leg.minutes) week.now self.new.minutes.rows.items }
         ensures cents { IsBelowLegs (λ leg. leg.cents) week.now self.new.cents.rows.items }
+        ensures taken { AreLeastWalksOf week.now self.new }
     {
         for leg in week.legs.as_slice() {
             self.minutes.note(leg.from, leg.to, u64::from(leg.minutes));
@@ -65,10 +70,12 @@ impl Walks {
         }
     }
 
-    /// Sets the tables for a week: no walk from one place to another takes less than they say. It takes no memory.
+    /// Sets the tables for a week: no walk from one place to another takes less than they say, and one takes just so much, where they
+    /// don't say the largest number. It takes no memory.
     pub fn fill(&mut self, week: &Week)
         requires { IsWeek week.now }
-        ensures { AreWalksOf week.now self.new }
+        ensures bounds { AreWalksOf week.now self.new }
+        ensures least { AreLeastWalksOf week.now self.new }
     {
         self.minutes.clear();
         self.cents.clear();
@@ -92,6 +99,7 @@ impl Walks {
     }
 
     /// The orders that can be reached, from a place at a minute, before their windows close; order n is the bit n.
+    #[inline(never)]
     pub fn reached(&self, week: &Week, at: u32, place: u32) -> u128
         requires { IsWeek week.now }
         ensures { result ≡ reached_from week.now (minutes_between self.now) at place }

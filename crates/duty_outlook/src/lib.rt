@@ -4,8 +4,6 @@
 
 mod bounds;
 mod choosing;
-#[cfg(test)]
-mod desks;
 mod filling;
 mod laws;
 mod layouts;
@@ -15,8 +13,6 @@ mod outlooks;
 mod rows;
 mod services;
 mod spots;
-#[cfg(test)]
-mod tests;
 
 pub use bounds::make_outlook;
 pub use laws::has_timetable;

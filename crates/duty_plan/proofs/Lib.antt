@@ -17,9 +17,6 @@ pub mod LabelLists
 pub mod OneLabel
 pub mod Home
 pub mod OneNode
-pub mod OneDriver
-pub mod Trips
-pub mod LeastTrips
 pub mod Hopes
 pub mod Twins
 pub mod Reaching

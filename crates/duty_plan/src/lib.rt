@@ -8,28 +8,18 @@ mod checks;
 mod deciding;
 mod duties;
 mod duty_checks;
-#[cfg(test)]
-mod duty_tests;
 mod faults;
 mod labels;
 mod laws;
 mod lines;
 mod nodes;
 mod office;
-#[cfg(test)]
-mod office_tests;
 mod orders;
 mod outcomes;
 mod planning;
-#[cfg(test)]
-mod planning_tests;
 mod plans;
 mod positions;
 mod pricing;
-#[cfg(test)]
-mod tests;
-#[cfg(test)]
-mod trip_tests;
 
 pub use alike::are_alike;
 pub use checks::{check_duty, check_plan, check_steps};
@@ -45,7 +35,7 @@ pub use laws::{
 };
 pub use lines::line_of;
 pub use nodes::{Decision, Node, NodeStart, NodeState};
-pub use office::{minutes_at, place_after};
+pub use office::{minutes_at, place_after, serves_anew, with_bit};
 pub use orders::serves;
 pub use outcomes::{Limits, Outcome, State};
 pub use planning::{Gate, Planner, Pricer, Straight};

@@ -158,8 +158,8 @@ pub(crate) fn loaded_after(act: Act, loaded: bool) -> bool
     }
 }
 
-/// The bits of the orders served, after one more act.
-pub(crate) fn with_bit(act: Act, served: u128) -> u128
+/// The orders served, after one more act; order n is the bit n.
+pub fn with_bit(act: Act, served: u128) -> u128
     requires { HasBit act }
     ensures { result ≡ bit_or served (bit_of_act act) }
 {
@@ -181,8 +181,8 @@ pub(crate) fn carries(week: &Week, capacity: u32, loaded: bool, used: u32, act: 
     }
 }
 
-/// Whether the act serves no order that was served before.
-pub(crate) fn serves_anew(served: u128, act: Act) -> bool
+/// Whether the act serves no order that was served before; order n is the bit n of those.
+pub fn serves_anew(served: u128, act: Act) -> bool
     requires { HasBit act }
     ensures { (before : PartialDuty) → served ≡ served_after before → result ≡ is_new act before }
 {

@@ -58,6 +58,7 @@ impl Position {
     }
 
     /// The first office test that the step fails, after the road's, where its act ends at a minute.
+    #[inline(always)]
     fn fault(
         &self,
         week: &Week,
@@ -104,6 +105,7 @@ impl Position {
     ///
     /// The lorry is the driver's, and `open_off` the open off run of the driver's history, in minutes. The step may hold any
     /// numbers. The work is constant but for looking a leg up.
+    #[inline(always)]
     pub fn try_step(
         &self,
         week: &Week,

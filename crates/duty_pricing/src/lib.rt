@@ -22,8 +22,6 @@ mod slots;
 mod stays;
 mod steps;
 mod stores;
-#[cfg(test)]
-mod tests;
 mod tried;
 mod visits;
 

@@ -28,18 +28,6 @@ pub(crate) struct Told {
     pub(crate) written: Vec<u8>,
 }
 
-/// A keeper that keeps nothing.
-pub(crate) fn empty(alloc: Global) -> MemoryKeeper {
-    MemoryKeeper {
-        histories: Many::new(alloc),
-        drafts: Many::new(alloc),
-        issues: Many::new(alloc),
-        calls: 0,
-        fails: Many::new(alloc),
-        faults: 0,
-    }
-}
-
 /// A link over a request.
 fn link(alloc: Global, request: &[u8], ways: Ways) -> Result<Link<MemorySource, MemorySink>, Memory>
     requires { 0 < ways.piece }

@@ -41,18 +41,6 @@ const BEFORE: &str = "week,2026-02-23,15,3000,15\nplace,HUB\ndriver,D1,24000,200
 /// A week of a driver of whom nothing is kept.
 const UNKNOWN: &str = "week,2026-03-09,15,3000,15\nplace,HUB\ndriver,D9,24000,2000\n";
 
-/// A keeper that keeps nothing.
-fn empty(alloc: Global) -> MemoryKeeper {
-    MemoryKeeper {
-        histories: Many::new(alloc),
-        drafts: Many::new(alloc),
-        issues: Many::new(alloc),
-        calls: 0,
-        fails: Many::new(alloc),
-        faults: 0,
-    }
-}
-
 /// A reply as a text.
 fn reply_text(alloc: Global, reply: Reply) -> Result<Bytes, Memory> {
     match reply {
@@ -203,7 +191,7 @@ fn exports<R: Threads + Sync>(
 
 #[test]
 fn a_week_is_published_once(rt: HostRuntime) -> Result<(), Fail> {
-    let mut keeper = empty(rt.alloc());
+    let mut keeper = MemoryKeeper::new(rt.alloc(), Many::new(rt.alloc()));
     let draft = ("2026-03-02", 1);
     let stands = "refused published 2026-03-02 receipt 1\n";
     assert!(rt; plans(&rt, rt.alloc(), &mut keeper, PLAIN, PLANNED));
@@ -223,7 +211,7 @@ fn a_week_is_published_once(rt: HostRuntime) -> Result<(), Fail> {
 
 #[test]
 fn a_draft_is_published_at_its_revision_alone(rt: HostRuntime) -> Result<(), Fail> {
-    let mut keeper = empty(rt.alloc());
+    let mut keeper = MemoryKeeper::new(rt.alloc(), Many::new(rt.alloc()));
     let week = "week 2026-03-02\ncost 13500\n";
     assert!(rt; plans(&rt, rt.alloc(), &mut keeper, PLAIN, PLANNED));
     assert!(rt; reports(&rt, rt.alloc(), &mut keeper, PLAIN, week, "\ndraft 2\n"));
@@ -250,7 +238,7 @@ fn a_draft_is_published_at_its_revision_alone(rt: HostRuntime) -> Result<(), Fai
 
 #[test]
 fn a_draft_is_shown_and_exported(rt: HostRuntime) -> Result<(), Fail> {
-    let mut keeper = empty(rt.alloc());
+    let mut keeper = MemoryKeeper::new(rt.alloc(), Many::new(rt.alloc()));
     assert!(rt;
         shows(
             &rt,
@@ -268,7 +256,7 @@ fn a_draft_is_shown_and_exported(rt: HostRuntime) -> Result<(), Fail> {
 
 #[test]
 fn a_published_week_is_shown_with_its_receipt(rt: HostRuntime) -> Result<(), Fail> {
-    let mut keeper = empty(rt.alloc());
+    let mut keeper = MemoryKeeper::new(rt.alloc(), Many::new(rt.alloc()));
     let shown =
         "week 2026-03-02\ncost 13500\nbound 13500\nstate proved\nnodes 1\norder A out 9000\norder B out 4500\ndraft 1\npublished 1\n";
     assert!(rt; plans(&rt, rt.alloc(), &mut keeper, PLAIN, PLANNED));
@@ -288,7 +276,7 @@ fn a_published_week_is_shown_with_its_receipt(rt: HostRuntime) -> Result<(), Fai
 
 /// A keeper after two drafts of a driver's weeks, of which the first was published. None where a reply was another.
 fn moved_on<R: Threads + Sync>(rt: &R, alloc: Global) -> Option<MemoryKeeper> {
-    let mut keeper = empty(alloc);
+    let mut keeper = MemoryKeeper::new(alloc, Many::new(alloc));
     let first = "week 2026-03-02\ncost 8000\nbound 8000\nstate proved\nnodes 1\n";
     let second = "week 2026-03-09\ncost 8000\nbound 8000\nstate proved\nnodes 1\n";
     let receipt = "published 2026-03-02 receipt 1\n";
@@ -379,7 +367,7 @@ fn last_draft(alloc: Global, monday: Monday) -> Option<Draft> {
 
 /// A keeper that holds the last draft of a week.
 fn full(alloc: Global) -> Option<MemoryKeeper> {
-    let mut keeper = empty(alloc);
+    let mut keeper = MemoryKeeper::new(alloc, Many::new(alloc));
     let draft = last_draft(alloc, read_monday("2026-03-02")?)?;
     keeper.drafts.push(draft).ok()?;
     Some(keeper)
@@ -403,7 +391,7 @@ fn a_week_has_a_last_draft(rt: HostRuntime) -> Result<(), Fail> {
 // The third call of a plan without drivers puts the draft.
 #[test]
 fn a_draft_that_is_not_kept_is_not_shown(rt: HostRuntime) -> Result<(), Fail> {
-    let mut keeper = empty(rt.alloc());
+    let mut keeper = MemoryKeeper::new(rt.alloc(), Many::new(rt.alloc()));
     keeper.fails.push(3).ok().ok_or("memory")?;
     assert!(rt; plans(&rt, rt.alloc(), &mut keeper, PLAIN, "fault\n"));
     assert_eq!(rt; keeper.faults, 1);

@@ -3,4 +3,10 @@
 #![tactic(auto)]
 
 #[cfg(test)]
+mod pricers;
+#[cfg(test)]
 mod tests;
+#[cfg(test)]
+mod trips;
+#[cfg(test)]
+mod weeks;

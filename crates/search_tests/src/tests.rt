@@ -1,23 +1,22 @@
-// Searches over a pricer without chunks, whose answers are plain; and the pairs of a path. What is expected is worked out by
+// Searches over pricers without chunks, whose answers are plain; and the pairs of a path. What is expected is worked out by
 // hand from the rules of a search.
-ghost use Rattle.std.specs.Prelude.{◌≡◌, ◌≤◌, ◌==◌, if◌then◌else◌, true, pos, [], length, IfOk, IfSome};
-ghost use Rattle.std.specs.List.{list_all};
-ghost use Rattle.week_book.specs.Weeks.{IsWeek};
-ghost use Rattle.week_book.specs.Texts.{is_planned, begins_with_week, are_week_rows};
+ghost use Rattle.std.specs.Prelude.{◌≡◌, ◌≤◌, ◌==◌, if◌then◌else◌, pos, [], length, IfOk};
+ghost use Rattle.std.specs.Thread.{IsSync};
 ghost use Rattle.duty_plan.specs.Duties.{IsCase};
 ghost use Rattle.branch_tree.specs.Paths.{HasEarlierParents};
 
+use crate::pricers::{Guessing, Spending, Told};
+use crate::weeks::{ALIKE, NO_ORDER, ONE_ORDER, TWO_ORDERS, UNLIKE};
 use branch_tree::{pairs_of, search};
 use duty_plan::{
-    Case, Decision, Duty, Gate, Limits, Node, NodeState, Pair, Pairs, Priced, Pricer, Prices,
-    State, Straight,
+    Case, Decision, Duty, Gate, Limits, Node, NodeState, Outcome, Pair, Pairs, Priced, Pricer,
+    Prices, State, Straight,
 };
-use minute_line::{Many, Memory, Name, fresh, read_monday};
+use minute_line::{Many, Memory};
+use sample_weeks::case_of_text;
 use std::alloc::Global;
-use std::process::Abort;
 use std::test::Fail;
 use std::thread::Threads;
-use week_book::{Row, Week, check_week};
 
 /// A pricer without chunks. Where a week has no order no duty has a value below 0, and the empty duty has it; of all other
 /// weeks it says that its memory was spent.
@@ -74,131 +73,20 @@ impl Pricer for Homebody {
     }
 }
 
-fn name(alloc: Global, text: &str) -> Result<Name, Memory> {
-    Name::from_slice(alloc, text.as_bytes())
-}
-
-fn is_planned(row: &Row) -> bool
-    ensures { result ≡ is_planned row.now }
-{
-    !matches!(row, Row::Did { .. })
-}
-
-fn begins_with_week(rows: &[Row]) -> bool
-    ensures { result ≡ begins_with_week rows.now }
-{
-    match rows.first() {
-        Some(Row::Week { .. }) => true,
-        _ => false,
-    }
-}
-
-fn each_planned(rows: &[Row]) -> bool
-    ensures { result ≡ list_all is_planned rows.now }
-{
-    for row in rows {
-        if !is_planned(row) {
-            return false;
-        }
-    }
-    true
-}
-
-fn are_week_rows(rows: &[Row]) -> bool
-    ensures { result ≡ are_week_rows rows.now }
-{
-    begins_with_week(rows) && each_planned(rows)
-}
-
-/// The week row and the depot.
-fn head(alloc: Global) -> Result<Many<Row>, Fail> {
-    let mut rows = Many::new(alloc);
-    rows.push(Row::Week {
-        row: 1,
-        monday: read_monday("2026-03-02").ok_or("monday")?,
-        load: 15,
-        night: 3000,
-        grid: 15,
-    })?;
-    rows.push(Row::Place {
-        row: 2,
-        name: name(alloc, "HUB")?,
-    })?;
-    Ok(rows)
-}
-
-fn push_drivers(alloc: Global, rows: &mut Many<Row>, drivers: &[&str]) -> Result<(), Memory> {
-    for text in drivers {
-        rows.push(Row::Driver {
-            row: 3,
-            name: name(alloc, text)?,
-            capacity: 24_000,
-            fee: 2000,
-        })?;
-    }
-    Ok(())
-}
-
-fn push_orders(alloc: Global, rows: &mut Many<Row>, orders: &[&str]) -> Result<(), Memory> {
-    for text in orders {
-        rows.push(Row::Order {
-            row: 4,
-            name: name(alloc, text)?,
-            place: name(alloc, "HUB")?,
-            opens: 480,
-            closes: 540,
-            service: 30,
-            kg: 12_000,
-            price: 9000,
-        })?;
-    }
-    Ok(())
-}
-
-/// The week of the rows, where they are those of one.
-fn week_of(alloc: Global, rows: &Many<Row>) -> Option<Week>
-    requires few { length rows.now ≤ 1048576 }
-    requires words { are_week_rows rows.now ≡ true }
-    ensures { IfSome result IsWeek }
-{
-    match check_week(alloc, rows) {
-        Ok(week) => Some(week),
-        Err(_) => None,
-    }
-}
-
-/// A week of these drivers and of these orders at the depot, for each of which subcontractors take 9,000 cents.
-fn case(rt: &impl Abort, alloc: Global, drivers: &[&str], orders: &[&str]) -> Result<Case, Fail>
-    ensures { IfOk result IsCase }
-{
-    let mut rows = head(alloc)?;
-    push_drivers(alloc, &mut rows, drivers)?;
-    push_orders(alloc, &mut rows, orders)?;
-    assert!(rt; rows.len() <= 1_048_576 && are_week_rows(rows.as_slice()));
-    let Some(week) = week_of(alloc, &rows) else {
-        return Err(Fail::new("no week"));
-    };
-    let mut past = Many::new(alloc);
-    for _driver in week.drivers.as_slice() {
-        past.push(fresh(alloc))?;
-    }
-    Ok(Case { week, past })
-}
-
-/// Drivers, orders and a number of nodes; and the cost, the bound, the state and the nodes that a search ends with, which no
+/// A week and a number of nodes; and the cost, the bound, the state and the nodes that a search ends with, which no
 /// labels were given. Without orders the root is whole and its bound is the cost. Else each round is Spent: of one driver and
 /// one order the root has two children, which decide all, where two more nodes fit.
-const SEARCHES: [(&[&str], &[&str], u32, (u64, u64, State, usize)); 3] = [
-    (&["D1"], &[], 31, (0, 0, State::Proved, 1)),
-    (&["D1"], &["A"], 31, (9000, 0, State::OpenLabels, 3)),
-    (&["D1"], &["A"], 2, (9000, 0, State::OpenNodes, 1)),
+const SEARCHES: [(&str, u32, (u64, u64, State, usize)); 3] = [
+    (NO_ORDER, 31, (0, 0, State::Proved, 1)),
+    (ONE_ORDER, 31, (9000, 0, State::OpenLabels, 3)),
+    (ONE_ORDER, 2, (9000, 0, State::OpenNodes, 1)),
 ];
 
 #[test]
 fn a_search_ends_in_the_state_of_its_budget(rt: HostRuntime) -> Result<(), Fail> {
     let alloc = rt.alloc();
-    for (drivers, orders, nodes, (cost, bound, state, size)) in SEARCHES {
-        let case = case(&rt, alloc, drivers, orders)?;
+    for (text, nodes, (cost, bound, state, size)) in SEARCHES {
+        let case = case_of_text(alloc, text)?;
         let limits = Limits {
             labels: 0,
             nodes,
@@ -206,10 +94,152 @@ fn a_search_ends_in_the_state_of_its_budget(rt: HostRuntime) -> Result<(), Fail>
         };
         assert!(rt; 1 <= nodes && nodes <= 4095);
         let outcome = search(&rt, &Straight, alloc, &case, &limits, &mut Homebody)?;
-        assert_eq!(rt; outcome.cost, cost, "{drivers:?} {orders:?} {nodes}");
-        assert_eq!(rt; outcome.bound, bound, "{drivers:?} {orders:?} {nodes}");
-        assert_eq!(rt; outcome.tree.len(), size, "{drivers:?} {orders:?} {nodes}");
+        assert_eq!(rt; outcome.cost, cost, "{nodes} {text}");
+        assert_eq!(rt; outcome.bound, bound, "{nodes} {text}");
+        assert_eq!(rt; outcome.tree.len(), size, "{nodes} {text}");
         assert!(rt; outcome.state == state);
+    }
+    Ok(())
+}
+
+/// The outcome of a search without labels over a pricer that answers Spent and guesses so.
+fn sought<R: Threads + Sync>(
+    rt: &R,
+    alloc: Global,
+    case: &Case,
+    nodes: u32,
+    rounds: u32,
+    spending: Spending,
+    guessing: Guessing,
+) -> Result<Outcome, Memory>
+    requires sync { IsSync R.row }
+    requires case { IsCase case.now }
+    requires nodes { (1 ≤ nodes) × (nodes ≤ 4095) }
+    requires rounds { (1 ≤ rounds) × (rounds ≤ 100) }
+{
+    let limits = Limits {
+        labels: 0,
+        nodes,
+        rounds,
+    };
+    let mut pricer = Told {
+        spending,
+        guessing,
+        rounds: 0,
+    };
+    search(rt, &Straight, alloc, case, &limits, &mut pricer)
+}
+
+/// One answer that is Spent, by its round and its driver; and the cost, the bound, the state and the nodes that a search with two
+/// rounds a node ends with.
+///
+/// Where none is Spent, rounds 0 and 1 are the root's. At 3,000 cents both drivers serve the order and save 1,000: the bound is
+/// 3,000 - 2,000, and the plan of one of the duties costs 2,000. At 2,250, a quarter of 3,000 less, they save 250, and the bound
+/// is 2,250 - 500. Rounds 2 and 3 are those of the children, who force the order for the first driver and bar it: in each just
+/// one driver serves it, and the bound is 2,250 - 250, the cost.
+///
+/// A Spent at the root leaves it its bound so far, and its prices 3,000 to the children, in whom the bound is 3,000 - 1,000. In
+/// the forcing child, where all is decided, it leaves the root's bound; the barring one is open after it, and branched too.
+const ONE_SPENT: [(u32, u32, (u64, u64, State, usize)); 8] = [
+    (0, 0, (2000, 2000, State::Proved, 3)),
+    (0, 1, (2000, 2000, State::Proved, 3)),
+    (1, 0, (2000, 2000, State::Proved, 3)),
+    (1, 1, (2000, 2000, State::Proved, 3)),
+    (2, 0, (2000, 1750, State::OpenLabels, 3)),
+    (2, 1, (2000, 1750, State::OpenLabels, 3)),
+    (3, 0, (2000, 2000, State::Proved, 5)),
+    (3, 1, (2000, 2000, State::Proved, 5)),
+];
+
+#[test]
+fn a_spent_answer_leaves_what_was_known_before(rt: HostRuntime) -> Result<(), Fail> {
+    let alloc = rt.alloc();
+    let case = case_of_text(alloc, ALIKE)?;
+    for (round, driver, (cost, bound, state, size)) in ONE_SPENT {
+        let spending = Spending::At(round, driver);
+        let outcome = sought(&rt, alloc, &case, 31, 2, spending, Guessing::Nothing)?;
+        assert_eq!(rt; outcome.cost, cost, "{round} {driver}");
+        assert_eq!(rt; outcome.bound, bound, "{round} {driver}");
+        assert_eq!(rt; outcome.tree.len(), size, "{round} {driver}");
+        assert!(rt; outcome.state == state);
+    }
+    Ok(())
+}
+
+/// The round from which on all answers are Spent, and what the same search ends with. The bound is that of the rounds before, and
+/// the tree grows until all is decided: the barring child is branched too. Without a whole round no plan is found, and before a
+/// fourth round all is proved.
+const SPENT_SINCE: [(u32, (u64, u64, State, usize)); 5] = [
+    (0, (3000, 0, State::OpenLabels, 5)),
+    (1, (2000, 1000, State::OpenLabels, 5)),
+    (2, (2000, 1750, State::OpenLabels, 5)),
+    (3, (2000, 1750, State::OpenLabels, 5)),
+    (4, (2000, 2000, State::Proved, 3)),
+];
+
+#[test]
+fn the_bound_is_that_of_the_whole_rounds(rt: HostRuntime) -> Result<(), Fail> {
+    let alloc = rt.alloc();
+    let case = case_of_text(alloc, ALIKE)?;
+    for (round, (cost, bound, state, size)) in SPENT_SINCE {
+        let spending = Spending::Since(round);
+        let outcome = sought(&rt, alloc, &case, 31, 2, spending, Guessing::Nothing)?;
+        assert_eq!(rt; outcome.cost, cost, "{round}");
+        assert_eq!(rt; outcome.bound, bound, "{round}");
+        assert_eq!(rt; outcome.tree.len(), size, "{round}");
+        assert!(rt; outcome.state == state);
+    }
+    Ok(())
+}
+
+/// Guesses, and the cost and the bound where one node and one round stay open. Where the round is Spent the trip alone makes a plan
+/// that costs less than the subcontractor: of the two drivers who would have it one is refused, since the order is Barred for him
+/// once the other serves it. A whole round has that plan already, and its bound of 3,000 - 2,000.
+const GUESSES: [(Spending, Guessing, u64, u64); 6] = [
+    (Spending::Since(0), Guessing::Nothing, 3000, 0),
+    (Spending::Since(0), Guessing::Empty, 3000, 0),
+    (Spending::Since(0), Guessing::First, 2000, 0),
+    (Spending::Never, Guessing::Nothing, 2000, 1000),
+    (Spending::Never, Guessing::Empty, 2000, 1000),
+    (Spending::Never, Guessing::First, 2000, 1000),
+];
+
+#[test]
+fn guesses_change_the_plan_and_no_bound(rt: HostRuntime) -> Result<(), Fail> {
+    let alloc = rt.alloc();
+    let case = case_of_text(alloc, ALIKE)?;
+    for (spending, guessing, cost, bound) in GUESSES {
+        let outcome = sought(&rt, alloc, &case, 1, 1, spending, guessing)?;
+        assert_eq!(rt; outcome.cost, cost, "{spending:?} {guessing:?}");
+        assert_eq!(rt; outcome.bound, bound, "{spending:?} {guessing:?}");
+        assert!(rt; outcome.state == State::OpenNodes && outcome.tree.len() == 1);
+    }
+    Ok(())
+}
+
+/// Guesses, and the cost where one node stays open and no round is whole. All given away is 20,000 + 18,000 + 16,000.
+///
+/// Drivers in turn: the first gains most by A, 20,000 - 8,000, then the second by B, 18,000 - 9,000, the third finds nothing, and so
+/// they stay, for 8,000 + 9,000 + 16,000. From any plan in which he has no order the first takes A anew.
+///
+/// A dive begins with A at 20,000, which all three carry, B at 18,000 and C at 16,000. A falls by 2 x 5,000. At 10,000 the first two
+/// carry B and nobody A, so that A rises by 2,500 and B falls by 2,250. At 12,500, 15,750 and 16,000 the first saves 4,500, 7,750 or
+/// 8,000 and carries C, the second B and the third A. That is the best round, since its value is the cost of its plan: each driver
+/// is fixed so, for 8,000 + 9,000 + 10,000, and no plan costs less.
+const DIVES: [(Guessing, u64); 3] = [
+    (Guessing::Nothing, 54_000),
+    (Guessing::BestAlone, 33_000),
+    (Guessing::Best, 27_000),
+];
+
+#[test]
+fn a_dive_gets_further_than_drivers_in_turn(rt: HostRuntime) -> Result<(), Fail> {
+    let alloc = rt.alloc();
+    let case = case_of_text(alloc, UNLIKE)?;
+    for (guessing, cost) in DIVES {
+        let outcome = sought(&rt, alloc, &case, 1, 1, Spending::Never, guessing)?;
+        assert_eq!(rt; (outcome.cost, outcome.bound), (cost, 0), "{guessing:?}");
+        assert!(rt; outcome.state == State::OpenNodes && outcome.tree.len() == 1);
     }
     Ok(())
 }
@@ -243,7 +273,7 @@ fn tree(alloc: Global) -> Result<Many<Node>, Memory>
 #[test]
 fn a_forced_order_is_barred_for_the_other_driver(rt: HostRuntime) -> Result<(), Fail> {
     let alloc = rt.alloc();
-    let case = case(&rt, alloc, &["D1", "D2"], &["A", "B"])?;
+    let case = case_of_text(alloc, TWO_ORDERS)?;
     let tree = tree(alloc)?;
     let pairs = pairs_of(alloc, &case.week, tree.as_slice(), 3)?;
     let wanted = [Pair::Forced, Pair::Free, Pair::Barred, Pair::Barred];

@@ -1,6 +1,7 @@
 -- The ranges that the numbers of made weeks lie in.
 use Rattle.std.specs.Prelude.{◌≡◌, ℕ, ◌+◌, ◌/◌, ◌<◌, ◌≤◌, length}
 use Rattle.week_maker.specs.declared.orders.MadeOrder.{MadeOrder}
+use Rattle.week_maker.specs.declared.weeks.TheConstants.{ROW_COUNT}
 use Rattle.week_maker.specs.MadeWeeks.{hub_minutes, ring_minutes, order_of, ring_seed, order_seed, made_rows}
 
 -- the number is at least `low` and at most `high`
@@ -19,7 +20,7 @@ pub record IsOrderInRange (order : MadeOrder) : Type 0 where
 
 -- the week of a seed has 148 rows, and its numbers lie in their ranges
 pub record IsWeekInRange (seed : ℕ) : Type 0 where
-  pub rows : length (made_rows seed) ≡ 148
+  pub rows : length (made_rows seed) ≡ ROW_COUNT
   pub hub : (place : ℕ) → IsFrom 30 179 (hub_minutes seed place)
   pub ring : (place : ℕ) → IsFrom 20 79 (ring_minutes (ring_seed seed) place)
   pub orders : (number : ℕ) → IsOrderInRange (order_of (order_seed seed) number)

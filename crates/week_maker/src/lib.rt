@@ -12,4 +12,4 @@ mod tests;
 mod weeks;
 
 pub use laws::{made_stamps_are_read_back, made_weeks_are_in_range};
-pub use weeks::make_week;
+pub use weeks::{ROW_COUNT, make_week};

@@ -9,8 +9,11 @@ use minute_line::{Bytes, Many, Memory};
 use seeded_draws::Draws;
 use std::alloc::Global;
 
+/// The rows of a made week's text.
+pub const ROW_COUNT: u64 = 148;
+
 /// The text of the week that a seed makes, the same for each run: a depot and twelve places, legs both ways between the depot and
-/// each, and between each and the next, twelve drivers and forty orders, in 148 rows.
+/// each, and between each and the next, twelve drivers and forty orders, in `ROW_COUNT` rows.
 pub fn make_week(alloc: Global, seed: u64) -> Result<Bytes, Memory>
     ensures { IfOk result (λ text. text ≡ made_text seed) }
 {

@@ -1,7 +1,9 @@
 -- The next leg is noted in both tables.
-use Rattle.std.proofs.Common.{arith}
+use Rattle.std.proofs.Common.{arith, refl}
 use Rattle.week_book.specs.declared.weeks.Leg.{Leg}
+use Rattle.duty_plan.specs.Acts.{cents_of_road, minutes_of_road}
 use Rattle.duty_label.proofs.Closing.{noted-more}
+use Rattle.duty_label.proofs.Taking.{taken-more}
 use Rattle.duty_label.proofs.walks.Walks.note_legs.Goals as goal
 
 pub loop-leg-preserved : goal.loop-leg-preserved
@@ -18,4 +20,14 @@ loop-leg-preserved c =
           noted-more (λ leg. leg.cents) c.args.week.now c.loop-leg.self.cents.rows.items c.note-in-loop-leg.new.self.rows.items c.as_slice-leg-items.result.now
           c.loop-leg.leg-index none c.as_slice-leg-items.ensures c.requires.week c.note-in-loop-leg.ensures.below c.loop-leg-test.true was.cents
           c.note-in-loop-leg.ensures.noted;
+      minutes_taken =
+          taken-more minutes_of_road c.args.week.now c.loop-leg.self.minutes.rows.items c.note.new.self.rows.items c.as_slice-leg-items.result.now
+          c.loop-leg.leg-index c.from.result none c.as_slice-leg-items.ensures c.requires.week c.loop-leg-test.true c.from.ensures c.note.ensures.others
+          was.minutes_taken;
+      cents_taken =
+          taken-more cents_of_road c.args.week.now c.loop-leg.self.cents.rows.items c.note-in-loop-leg.new.self.rows.items c.as_slice-leg-items.result.now
+          c.loop-leg.leg-index _ none c.as_slice-leg-items.ensures c.requires.week c.loop-leg-test.true refl c.note-in-loop-leg.ensures.others was.cents_taken;
     }
+
+pub returns-clause-taken : goal.returns-clause-taken
+returns-clause-taken c = record { minutes = c.loop-leg.invariant.minutes_taken; cents = c.loop-leg.invariant.cents_taken }

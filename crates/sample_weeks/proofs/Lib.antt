@@ -1,0 +1,2 @@
+pub mod OneDriver
+pub mod TripWeeks
