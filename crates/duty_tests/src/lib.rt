@@ -9,6 +9,8 @@ mod definitions;
 #[cfg(test)]
 mod duties;
 #[cfg(test)]
+mod enumeration;
+#[cfg(test)]
 mod labels;
 #[cfg(test)]
 mod least;
@@ -24,7 +26,5 @@ mod plans;
 mod pricings;
 #[cfg(test)]
 mod pruning;
-#[cfg(test)]
-mod tests;
 #[cfg(test)]
 mod weeks;

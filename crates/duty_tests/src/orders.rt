@@ -1,5 +1,5 @@
 // The bits of the orders served. Order n is the bit n, so that a number that holds some orders is written out by hand.
-
+use duty_label::has_order;
 use duty_plan::{Act, serves_anew, with_bit};
 
 /// The bits of the orders 0, 63, 64 and 119.
@@ -33,5 +33,7 @@ fn orders_0_63_64_and_119_have_bits_of_their_own(rt: HostRuntime) {
         assert_eq!(rt; with_bit(serve, others), ALL, "order {order}");
         assert!(rt; serves_anew(others, serve), "order {order}");
         assert!(rt; !serves_anew(bit, serve), "order {order}");
+        assert!(rt; has_order(bit, order), "order {order}");
+        assert!(rt; !has_order(others, order), "order {order}");
     }
 }

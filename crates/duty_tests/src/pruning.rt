@@ -1,7 +1,7 @@
 // Which labels need not be stored, in the week of one driver. What a completion may be worth is worked out by hand.
 
 use crate::labels::label_of;
-use duty_label::{has_order, make_walks};
+use duty_label::make_walks;
 use duty_plan::{Act, Pair, Step};
 use hours_rules::Stay;
 use minute_line::{Kind, read_monday};
@@ -60,33 +60,5 @@ fn a_label_is_hopeless_just_where_it_cannot_pay_or_come_home(rt: HostRuntime) {
             "{pair:?} {} {known:?}",
             steps.len()
         );
-    }
-}
-
-// Each row is an order, its bit, and the bits of the other three orders. Order n is the bit n of a label's served orders.
-#[test]
-fn a_label_tells_the_orders_0_63_64_and_119_apart(rt: HostRuntime) {
-    let rows: [(u32, u128, u128); 4] = [
-        (0, 0x1, 0x80_0000_0000_0001_8000_0000_0000_0000),
-        (
-            63,
-            0x8000_0000_0000_0000,
-            0x80_0000_0000_0001_0000_0000_0000_0001,
-        ),
-        (
-            64,
-            0x1_0000_0000_0000_0000,
-            0x80_0000_0000_0000_8000_0000_0000_0001,
-        ),
-        (
-            119,
-            0x80_0000_0000_0000_0000_0000_0000_0000,
-            0x1_8000_0000_0000_0001,
-        ),
-    ];
-    for (order, bit, others) in rows {
-        assert!(rt; order < 128);
-        assert!(rt; has_order(bit, order), "order {order}");
-        assert!(rt; !has_order(others, order), "order {order}");
     }
 }
